@@ -1,0 +1,8 @@
+-- The laws of the definitions in specs/, by theme.
+pub mod Bools
+pub mod Numbers
+pub mod Below
+pub mod Sums
+pub mod Lists
+pub mod Gather
+pub mod Memory
