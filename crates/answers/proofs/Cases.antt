@@ -1,5 +1,5 @@
--- 01's cases 1 to 12 and the cases at the edges: one table, one test over it, one theorem.
---   table     == the cases, each with its number in 01 (0 for those at the edges)
+-- 01's cases 1 to 12, the cases at the edges and a few more: one table, one test over it, one theorem.
+--   table     == the cases, each with its number in 01 (0 for those at the edges, and for some that 01's own leave open)
 --   holds     == the test of one case, which antt computes
 --   cases     == the theorem: every case of the table holds
 --   case-at   == each case by its place in the table
@@ -86,9 +86,9 @@ indexOf p t W N = lent p t W N (countsFor p (W ++ N))
 lentBuffer : ℕ → List ℕ
 lentBuffer n = replicate n 99
 
--- Work with five entries more than an index of 18 nodes and two words needs.
+-- Work with five entries more than an index of 18 nodes and three words needs.
 lentWork : List ℕ
-lentWork = lentBuffer 77
+lentWork = lentBuffer 95
 
 -- ---- what a case claims
 -- Of an index I; o and s are the lengths of out and own that are lent.
@@ -107,7 +107,7 @@ pub data Claim : Type 0 where
   -- node v is full, with these own counts
   fullWith : (I : Index) (v : ℕ) (owns : List ℕ) → Claim
 
--- A claim and the number of its case in 01; 0 for a case at the edges.
+-- A claim and the number of its case in 01, or 0.
 pub record Case : Type 0 where
   pub number : ℕ
   pub claim : Claim
@@ -143,6 +143,10 @@ chain n = indexOf (tabulate n λ i. i - 1) (replicate n 1) ((0 ∷ []) ∷ []) [
 flat : ℕ → Index
 flat n = lent (replicate n 0) (replicate n 1) ((0 ∷ []) ∷ []) [] []
 
+-- Two attributes of one tag, each with its text: neither is an entity. A word at the second text, but not at the first.
+attributes : Index
+attributes = indexOf (0 ∷ 0 ∷ 1 ∷ 0 ∷ 3 ∷ []) (1 ∷ 2 ∷ 0 ∷ 2 ∷ 0 ∷ []) ((4 ∷ []) ∷ []) ((2 ∷ []) ∷ [])
+
 -- ---- the table
 pub table : List Case
 table =
@@ -175,6 +179,13 @@ table =
     ∷ case 0 (elcaIs (chain 1) 5 9 (0 ∷ []) (1 ∷ []))
     ∷ case 0 (slcaIs (chain 1) (0 ∷ []))
     ∷ case 0 (validIs (chain 1) (0 ∷ []))
+    -- own one entry short
+    ∷ case 0 (elcaRefuses (ask (A ∷ Z ∷ [])) 2 3 (totalled ROOM 2))
+    -- under node 1 only T has a valid occurrence
+    ∷ case 0 (validIs (askNot (Z ∷ T ∷ []) (Z ∷ [])) [])
+    -- T occurs at no text node
+    ∷ case 0 (validIs (askNot (A ∷ []) (T ∷ [])) (4 ∷ 9 ∷ 17 ∷ []))
+    ∷ case 0 (negatorsAre attributes (0 ∷ []))
     ∷ []
 
 -- ---- the test
@@ -212,7 +223,7 @@ pub holds : Case → Bool
 holds c = test (c .claim)
 
 pub cases : everyOf holds table ≡ true
-unfolding everyBelow someBelow firstFail lastPass sumBelow tabulate gather listed everyOf someOf tally firstOf sameList zeroed over climb line level under properly child text parentOk levelOk hangsOk tagOk nodeOk treeBad start wordList countUnder trueCount rises listOk lastEndOk endOk wordOk listsBad countOk countsBad nodesOk wordsOk lengthsOk sizeOk checked checkReply workAfter keptOr full slca own ownCount elca children oneText sibling twin classOf entity closest negator valid validSlca isElca isSlca isNegator isValid outOf ownOf answers roomed outFits ownFits elcaReply elcaOut elcaOwn slcaReply slcaOut validReply validOut size endsOf allOf lent countsFor indexOf lentBuffer lentWork ask askNot miscount chain flat table sameReply workZeroed runElca test holds
+unfolding everyBelow someBelow firstFail lastPass sumBelow tabulate gather listed everyOf someOf tally firstOf sameList zeroed over climb line level under properly child text parentOk levelOk hangsOk tagOk nodeOk treeBad start wordList countUnder trueCount rises listOk lastEndOk endOk wordOk listsBad countOk countsBad nodesOk wordsOk lengthsOk sizeOk checked checkReply workAfter keptOr full slca own ownCount elca children oneText sibling twin classOf entity closest negator valid validSlca isElca isSlca isNegator isValid outOf ownOf answers roomed outFits ownFits elcaReply elcaOut elcaOwn slcaReply slcaOut validReply validOut size endsOf allOf lent countsFor indexOf lentBuffer lentWork ask askNot miscount chain flat attributes table sameReply workZeroed runElca test holds
 cases = refl
 
 -- Each case by its place in the table.

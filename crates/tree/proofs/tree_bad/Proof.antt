@@ -98,7 +98,7 @@ walk-less c = search needs
 walk-again : tie.Need-walk-again Inv-climb μ-climb Inv-walk μ-walk
 walk-again c =
     let m = c .before .before .before in
-    walk-step _ _ _ _ _ (walking (m .before) .walk .inv) _ _ (m .before .climb .inv) (met m) (omega arith) (c .before .if3 .left) (c .if4 .left)
+    walk-step _ _ _ _ _ (walking (m .before) .walk .inv) _ _ (m .before .climb .inv) (met m) (omega arith) (c .before .if3 .left) (omega (arith, c .if4 .left))
 
 returns : tie.Need-returns Inv-climb μ-climb Inv-walk μ-walk
 returns c = walk-end _ _ _ _ _ (c .before .walk .inv) (omega arith)
@@ -118,7 +118,7 @@ returns-4 : tie.Need-returns-4 Inv-climb μ-climb Inv-walk μ-walk
 returns-4 c =
     let m = c .before .before .before in
     let w = walking (m .before) in
-    answer _ _ _ _ _ (w .walk .inv) (too-deep _ _ _ _ _ (w .walk .inv) _ _ (m .before .climb .inv) (met m) (c .if4 .taken))
+    answer _ _ _ _ _ (w .walk .inv) (too-deep _ _ _ _ _ (w .walk .inv) _ _ (m .before .climb .inv) (met m) (omega (arith, c .if4 .taken)))
 
 pub tree-bad-spec : {M : Type 1} → statement M
 tree-bad-spec =
