@@ -19,7 +19,7 @@ use Rattle.tree.specs.Rules.{text, parentOk, levelOk, hangsOk, tagOk, nodeOk, t
 use Rattle.index.specs.declared.Reply.{Reply}
 use Rattle.index.specs.Index.{Index, nodes, start, wordList, wanted, countUnder, trueCount}
 use Rattle.index.specs.Rules.{rises, listOk, lastEndOk, endOk, wordOk, listsBad, countOk, countsBad}
-use Rattle.index.specs.Replies.{accepted, SIZE, TREE, LIST, COUNT, ROOM, refused, totalled, room, nodesOk, wordsOk, lengthsOk, sizeOk, checked, checkReply, workAfter, keptOr}
+use Rattle.index.specs.Replies.{accepted, SIZE, TREE, LIST, COUNT, ROOM, refused, totalled, room, nodesOk, wordsOk, lengthsOk, sizeOk, refusing, checked, checkReply, workAfter, keptOr}
 use Rattle.answers.specs.Answers.{full, slca, own, ownCount, elca}
 use Rattle.answers.specs.Classes.{children, oneText, sibling, twin, classOf, entity, closest}
 use Rattle.answers.specs.Not.{negator, valid, validSlca}
@@ -77,7 +77,7 @@ lent p t W N cs = record {
 
 -- The counts that such an index must have.
 countsFor : List ℕ → List (List ℕ) → List ℕ
-countsFor p W = tabulate (size W * length p) (trueCount (lent p [] W [] []))
+countsFor p W = tabulate (size W * length p) (trueCount p (endsOf 0 W) (allOf W))
 
 indexOf : List ℕ → List ℕ → List (List ℕ) → List (List ℕ) → Index
 indexOf p t W N = lent p t W N (countsFor p (W ++ N))
@@ -223,7 +223,7 @@ pub holds : Case → Bool
 holds c = test (c .claim)
 
 pub cases : everyOf holds table ≡ true
-unfolding everyBelow someBelow firstFail lastPass sumBelow tabulate gather listed everyOf someOf tally firstOf sameList zeroed over climb line level under properly child text parentOk levelOk hangsOk tagOk nodeOk treeBad start wordList countUnder trueCount rises listOk lastEndOk endOk wordOk listsBad countOk countsBad nodesOk wordsOk lengthsOk sizeOk checked checkReply workAfter keptOr full slca own ownCount elca children oneText sibling twin classOf entity closest negator valid validSlca isElca isSlca isNegator isValid outOf ownOf answers roomed outFits ownFits elcaReply elcaOut elcaOwn slcaReply slcaOut validReply validOut size endsOf allOf lent countsFor indexOf lentBuffer lentWork ask askNot miscount chain flat attributes table sameReply workZeroed runElca test holds
+unfolding everyBelow someBelow firstFail lastPass sumBelow tabulate gather listed everyOf someOf tally firstOf sameList zeroed over climb line level under properly child text parentOk levelOk hangsOk tagOk nodeOk treeBad start wordList countUnder trueCount rises listOk lastEndOk endOk wordOk listsBad countOk countsBad nodesOk wordsOk lengthsOk sizeOk refusing checked checkReply workAfter keptOr full slca own ownCount elca children oneText sibling twin classOf entity closest negator valid validSlca isElca isSlca isNegator isValid outOf ownOf answers roomed outFits ownFits elcaReply elcaOut elcaOwn slcaReply slcaOut validReply validOut size endsOf allOf lent countsFor indexOf lentBuffer lentWork ask askNot miscount chain flat attributes table sameReply workZeroed runElca test holds
 cases = refl
 
 -- Each case by its place in the table.

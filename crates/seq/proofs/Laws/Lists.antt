@@ -1,24 +1,20 @@
 -- Laws of someOf, everyOf, tally and firstOf. Lists may hold an entry more than once. Assumes nothing.
 use Prim.Native.Nat.{ℕ, zero, suc, zero-le, _+_, _≤_, _<_}
 use mathlib.Core.Path.{_≡_, refl, sym, ap, ap₂, _∙_}
-use mathlib.Core.Logic.{_⊎_, inl, inr, ⊎-elim}
+use mathlib.Core.Logic.{⊎-elim}
 use mathlib.Core.List.{List, [], _∷_, _++_}
-use mathlib.Core.Bool.{Bool, true, false, not, cond, _&&_, _||_, false≢true}
+use mathlib.Core.Bool.{Bool, true, false, cond, false≢true}
 use native.Mathlib.Nat.{not-suc-le-zero}
 use native.Mathlib.Numerals.{add-one}
 use native.Mathlib.Omega.{arith}
 use lib.Dec.{eqb, ltb}
-use borrow.Author.Tests.{eq-eqb, lt-ltb, le-ltb}
+use borrow.Author.Tests.{lt-ltb}
 use lib.ListN.{length, getD, take}
 use lib.Seq.{take-suc}
 use Rattle.seq.specs.Below.{sumBelow}
-use Rattle.seq.specs.Lists.{everyOf, someOf, tally, firstOf}
-use Rattle.seq.proofs.Laws.Bools.{bool-cases, bool-ext, bool-false, and-left, and-right, or-cases, or-left, or-right, eqb-sym, cond-zero, cond-add, cond-swap, cond-mono}
+use Rattle.seq.specs.Lists.{everyOf, someOf, tally, firstOf, EachBelow}
+use Rattle.seq.proofs.Laws.Bools.{bool-cases, and-left, and-right, or-cases, or-left, or-right, eqb-sym, cond-zero, cond-add, cond-swap, cond-mono}
 use Rattle.seq.proofs.Laws.Sums.{sum-ext, sum-none, sum-add, sum-pick}
-
--- Each entry of the list is below n.
-abbrev pub EachBelow : ℕ → List ℕ → Type 0
-EachBelow n l = (i : ℕ) → i < length l → getD l i 0 < n
 
 pub each-tail : (n x : ℕ) (l : List ℕ) → EachBelow n (x ∷ l) → EachBelow n l
 each-tail n x l b i h = b (suc i) (omega arith)

@@ -1,12 +1,12 @@
 -- Laws of zeroed and over. Assumes nothing.
-use Prim.Native.Nat.{ℕ, zero, suc, zero-le, _+_, _≤_, _<_}
-use mathlib.Core.Path.{_≡_, refl, sym, ap, ap₂, _∙_}
+use Prim.Native.Nat.{ℕ, zero, suc, _+_, _≤_, _<_}
+use mathlib.Core.Path.{_≡_, refl, sym, ap, _∙_}
 use mathlib.Core.List.{List, [], _∷_, _++_, append-nil, append-assoc}
 use native.Mathlib.Nat.{not-suc-le-zero, le-of-suc-le-suc}
 use native.Mathlib.Numerals.{add-one}
 use native.Mathlib.Omega.{arith}
 use borrow.Author.Fill.{fill-more}
-use lib.ListN.{length, getD, set, take, drop, replicate, drop-of-length-le, length-append, length-drop, length-replicate, getD-replicate, List·getD-append}
+use lib.ListN.{length, getD, set, drop, replicate, drop-of-length-le, length-append, length-drop, length-replicate, getD-replicate, List·getD-append}
 use lib.Seq.{drop-cons, set-at}
 use Rattle.seq.specs.Memory.{zeroed, over}
 
