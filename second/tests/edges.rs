@@ -1,0 +1,246 @@
+//! 01, "At the edges", and the refusals one by one.
+
+mod common;
+
+use common::lawful;
+use second::call::{Call, Reply, Search, ACCEPTED, COUNT, LIST, ROOM, SIZE, TREE};
+use second::judge::judge;
+
+fn refused(refusal: u32, place: u32) -> Reply {
+    Reply {
+        refusal,
+        place,
+        total: 0,
+    }
+}
+
+fn listed(total: u32) -> Reply {
+    Reply {
+        refusal: ACCEPTED,
+        place: 0,
+        total,
+    }
+}
+
+/// A chain of n nodes, each the child of the one before.
+fn chain(n: u32) -> Vec<u32> {
+    (0..n).map(|i| i.saturating_sub(1)).collect()
+}
+
+/// n nodes, all children of the root.
+fn flat(n: usize) -> Vec<u32> {
+    vec![0; n]
+}
+
+#[test]
+fn level_64_is_accepted_and_level_65_is_tree() {
+    for search in Search::ALL {
+        let call = lawful(search, &chain(64), &[1; 64], &[&[63]], &[]);
+        let total = if search == Search::Check { 0 } else { 1 };
+        assert_eq!(judge(&call).reply, listed(total));
+        let call = lawful(search, &chain(65), &[1; 65], &[&[63]], &[]);
+        let after = judge(&call);
+        assert_eq!(after.reply, refused(TREE, 64));
+        assert_eq!(after.work[..3 * 65], [0; 3 * 65]);
+        assert_eq!(after.work[3 * 65..], [7; 3]);
+    }
+}
+
+#[test]
+fn n_65_536_is_accepted_and_65_537_is_size() {
+    for search in Search::ALL {
+        let n = 65_536;
+        let call = lawful(search, &flat(n), &vec![1; n], &[&[0, 65_535]], &[]);
+        let total = match search {
+            Search::Check => 0,
+            Search::Elca => 2,
+            _ => 1,
+        };
+        assert_eq!(judge(&call).reply, listed(total));
+        let call = lawful(search, &flat(n + 1), &vec![1; n + 1], &[&[0, 65_535]], &[]);
+        let after = judge(&call);
+        assert_eq!(after.reply, refused(SIZE, 0));
+        assert_eq!(
+            (after.work, after.out, after.own),
+            (call.work, call.out, call.own)
+        );
+    }
+}
+
+#[test]
+fn a_list_4_4_is_list() {
+    let mut call = lawful(Search::Elca, &flat(6), &[1; 6], &[&[1], &[4, 5]], &[]);
+    assert_eq!(judge(&call).reply.refusal, ACCEPTED);
+    call.occurrences[2] = 4;
+    assert_eq!(judge(&call).reply, refused(LIST, 1));
+}
+
+#[test]
+fn one_node_with_the_word_lists_0() {
+    for search in [Search::Elca, Search::Slca, Search::Valid] {
+        let after = judge(&lawful(search, &[0], &[9], &[&[0]], &[]));
+        assert_eq!(after.reply, listed(1));
+        assert_eq!(after.out, [0]);
+    }
+}
+
+#[test]
+fn tree_places() {
+    let base = |parents: &[u32], tags: &[u32]| {
+        let mut call = lawful(Search::Check, &[0, 0, 1, 0, 3], &[1, 2, 0, 2, 0], &[&[2]], &[]);
+        call.parents = parents.to_vec();
+        call.tags = tags.to_vec();
+        judge(&call).reply
+    };
+    let tags = [1, 2, 0, 2, 0];
+    assert_eq!(base(&[0, 0, 1, 0, 3], &tags), listed(0));
+    assert_eq!(base(&[1, 0, 1, 0, 3], &tags), refused(TREE, 0));
+    assert_eq!(base(&[0, 0, 1, 0, 3], &[0, 2, 0, 2, 0]), refused(TREE, 0));
+    // Itself, a later node, a node off the climb, far out.
+    assert_eq!(base(&[0, 1, 1, 0, 3], &tags), refused(TREE, 1));
+    assert_eq!(base(&[0, 2, 1, 0, 3], &tags), refused(TREE, 1));
+    assert_eq!(base(&[0, 0, 1, 0, 1], &tags), refused(TREE, 4));
+    assert_eq!(base(&[0, 0, 1, u32::MAX, 3], &tags), refused(TREE, 3));
+    // A text parent breaks the rule at the child.
+    assert_eq!(base(&[0, 0, 1, 2, 3], &tags), refused(TREE, 3));
+    assert_eq!(base(&[0, 0, 1, 0, 3], &[1, 2, 0, 0, 0]), refused(TREE, 4));
+    // Any tag but 0 is free.
+    let top = u32::MAX;
+    assert_eq!(base(&[0, 0, 1, 0, 3], &[top, top, 0, top, 0]), listed(0));
+}
+
+#[test]
+fn list_places() {
+    let base = |ends: &[u32], occurrences: &[u32]| {
+        let mut call = lawful(Search::Check, &flat(6), &[1; 6], &[&[1, 2], &[0, 5]], &[&[3]]);
+        call.ends = ends.to_vec();
+        call.occurrences = occurrences.to_vec();
+        judge(&call).reply
+    };
+    assert_eq!(base(&[2, 4, 5], &[1, 2, 0, 5, 3]), listed(0));
+    assert_eq!(base(&[6, 4, 5], &[1, 2, 0, 5, 3]), refused(LIST, 0));
+    assert_eq!(base(&[2, 1, 5], &[1, 2, 0, 5, 3]), refused(LIST, 1));
+    assert_eq!(base(&[2, u32::MAX, 5], &[1, 2, 0, 5, 3]), refused(LIST, 1));
+    assert_eq!(base(&[2, 4, 4], &[1, 2, 0, 5, 3]), refused(LIST, 2));
+    assert_eq!(base(&[2, 4, 6], &[1, 2, 0, 5, 3]), refused(LIST, 2));
+    assert_eq!(base(&[2, 4, 5], &[1, 2, 0, 6, 3]), refused(LIST, 1));
+    assert_eq!(base(&[2, 4, 5], &[2, 1, 0, 5, u32::MAX]), refused(LIST, 0));
+    // Each list starts anew: 2 then 0 is no decrease.
+    assert_eq!(base(&[3, 4, 5], &[1, 2, 0, 5, 3]), refused(LIST, 0));
+    // Good lists with another end: the counts are false.
+    assert_eq!(base(&[1, 4, 5], &[1, 0, 2, 5, 3]), refused(COUNT, 0));
+}
+
+#[test]
+fn count_place_goes_word_by_word() {
+    let mut call = lawful(Search::Valid, &flat(4), &[1; 4], &[&[1], &[2]], &[&[3]]);
+    call.counts[2 * 4] += 1;
+    assert_eq!(judge(&call).reply, refused(COUNT, 8));
+    call.counts[4] += 1;
+    assert_eq!(judge(&call).reply, refused(COUNT, 4));
+    call.counts[3] += 1;
+    assert_eq!(judge(&call).reply, refused(COUNT, 3));
+}
+
+#[test]
+fn size_reasons() {
+    let base = || lawful(Search::Valid, &flat(4), &[1; 4], &[&[1], &[2]], &[&[3]]);
+    let all_sizes: Vec<fn(&mut Call)> = vec![
+        |call| {
+            call.parents.pop();
+        },
+        |call| call.parents.push(0),
+        |call| {
+            call.tags.pop();
+        },
+        |call| call.tags.push(1),
+        |call| {
+            call.ends.pop();
+        },
+        |call| call.ends.push(3),
+        |call| {
+            call.counts.pop();
+        },
+        |call| call.counts.push(0),
+        |call| call.work.truncate(5 * 4 - 1),
+        |call| (call.p, call.q) = (0, 3),
+        |call| (call.p, call.q) = (2, 7),
+        |call| (call.p, call.q) = (9, 0),
+        |call| (call.p, call.q) = (u32::MAX, 4),
+        |call| (call.p, call.q) = (4, u32::MAX),
+        |call| (call.p, call.q) = (u32::MAX, u32::MAX),
+        |call| call.search = Search::Elca,
+        |call| call.search = Search::Slca,
+        |call| {
+            call.parents.clear();
+            call.tags.clear();
+            call.counts.clear();
+        },
+    ];
+    for spoil in all_sizes {
+        let mut call = base();
+        spoil(&mut call);
+        // SIZE comes before every other refusal.
+        for entry in call.parents.iter_mut().chain(&mut call.occurrences) {
+            *entry = u32::MAX;
+        }
+        let after = judge(&call);
+        assert_eq!(after.reply, refused(SIZE, 0));
+        assert_eq!(
+            (after.work, after.out, after.own),
+            (call.work, call.out, call.own)
+        );
+    }
+    let mut call = base();
+    call.work.truncate(5 * 4);
+    assert_eq!(judge(&call).reply, listed(1));
+    // Neither out nor own is a matter of SIZE; own is no matter of valid.
+    call.own.clear();
+    assert_eq!(judge(&call).reply, listed(1));
+    call.out.clear();
+    assert_eq!(
+        judge(&call).reply,
+        Reply {
+            refusal: ROOM,
+            place: 0,
+            total: 1
+        }
+    );
+}
+
+#[test]
+fn eight_positive_words_and_eight_words_in_all() {
+    let word: &[u32] = &[1];
+    let call = lawful(Search::Elca, &flat(3), &[1; 3], &[word; 8], &[]);
+    assert_eq!(judge(&call).reply, listed(1));
+    let call = lawful(Search::Valid, &flat(3), &[1; 3], &[word; 1], &[word; 7]);
+    assert_eq!(judge(&call).reply, listed(1));
+    let call = lawful(Search::Check, &flat(3), &[1; 3], &[word; 9], &[]);
+    assert_eq!(judge(&call).reply, refused(SIZE, 0));
+    let call = lawful(Search::Valid, &flat(3), &[1; 3], &[word; 2], &[word; 7]);
+    assert_eq!(judge(&call).reply, refused(SIZE, 0));
+}
+
+#[test]
+fn classes_and_closest_entities() {
+    use second::class::{classes, closest_entity, Class::*};
+    // Two twins under the root: one an attribute though it has a twin, the
+    // other an entity. Under the entity a lone child with two texts.
+    //   0 ( 1 ( 2 text ) 3 ( 4 ( 5 text 6 text ) ) 7 text )
+    let parents = [0, 0, 1, 0, 3, 4, 4, 0];
+    let tags = [2, 2, 0, 2, 2, 0, 0, 0];
+    let classes = classes(&parents, &tags);
+    assert_eq!(classes, [Dummy, Attribute, Text, Entity, Dummy, Text, Text, Text]);
+    assert_eq!(closest_entity(&parents, &classes, 2), 0);
+    assert_eq!(closest_entity(&parents, &classes, 5), 3);
+    assert_eq!(closest_entity(&parents, &classes, 7), 0);
+}
+
+#[test]
+fn a_root_negator_strikes_out_everything() {
+    let call = lawful(Search::Valid, &[0, 0], &[1, 0], &[&[0]], &[&[1]]);
+    assert_eq!(judge(&call).reply, listed(0));
+    // At a node that is not text a negative word has no effect.
+    let call = lawful(Search::Valid, &[0, 0], &[1, 2], &[&[0]], &[&[1]]);
+    assert_eq!(judge(&call).reply, listed(1));
+}
