@@ -8,3 +8,4 @@ pub mod Lists
 pub mod Gather
 pub mod Members
 pub mod Memory
+pub mod Loops

@@ -7,7 +7,7 @@ use native.Mathlib.Numerals.{add-one}
 use native.Mathlib.Omega.{arith}
 use borrow.Author.Fill.{fill-more}
 use lib.ListN.{length, getD, set, drop, replicate, drop-of-length-le, length-append, length-drop, length-replicate, getD-replicate, List·getD-append}
-use lib.Seq.{drop-cons, set-at}
+use lib.Seq.{drop-cons, set-at, drop-at}
 use Rattle.seq.specs.Memory.{zeroed, over}
 
 pub zeroed-zero : (w : List ℕ) → zeroed 0 w ≡ w
@@ -41,6 +41,12 @@ zeroed-again n m w l = front n m (drop m w) l
     front zero m x l = refl
     front (suc n) zero x l = absurd (not-suc-le-zero l)
     front (suc n) (suc m) x l = ap (λ (z : List ℕ). 0 ∷ z) (front n m x (le-of-suc-le-suc l))
+
+-- Zeros over what was written over zeros.
+pub zeroed-over : (m : ℕ) (new w : List ℕ) → length new ≤ m → zeroed (length new) (over new (zeroed m w)) ≡ zeroed m w
+unfolding zeroed over
+zeroed-over m new w l =
+    ap (λ (t : List ℕ). replicate (length new) 0 ++ t) (drop-at new (drop (length new) (replicate m 0 ++ drop m w)) (length new) refl) ∙ zeroed-again (length new) m w l
 
 pub over-nil : (old : List ℕ) → over [] old ≡ old
 unfolding over

@@ -1,0 +1,64 @@
+-- Laws of listing: the reply and out in each case, and that no second outcome fits. Assumes nothing.
+use Prim.Native.Nat.{ℕ, _≤_, _<_}
+use mathlib.Core.Path.{_≡_, refl, sym, ap, _∙_}
+use mathlib.Core.Logic.{⊎-elim}
+use mathlib.Core.List.{List}
+use mathlib.Core.Bool.{true, false}
+use native.Mathlib.Omega.{arith}
+use lib.Dec.{leb}
+use borrow.Author.Tests.{le-leb, lt-leb, leb-true}
+use lib.ListN.{length}
+use Rattle.seq.specs.Below.{listed}
+use Rattle.seq.specs.Memory.{over}
+use Rattle.seq.proofs.Laws.Bools.{bool-cases}
+use Rattle.seq.proofs.Laws.Gather.{listed-le}
+use Rattle.seq.proofs.Laws.Memory.{length-over}
+use Rattle.index.specs.declared.Reply.{Reply}
+use Rattle.index.specs.Replies.{accepted, SIZE, ROOM, refused, totalled, keptOr}
+use Rattle.listing.specs.Listing.{flagged, flaggedRows, flaggedReply, flaggedOut, Listed, WritePre}
+
+-- Each flagged node puts one entry into out.
+pub rows-length : (fl : List ℕ) → length (flaggedRows fl) ≡ length (listed (length fl) (flagged fl))
+unfolding flaggedRows listed
+rows-length fl = refl
+
+module _ (fl out : List ℕ) where
+  pub listed-size : 65536 < length fl → Listed fl out (refused SIZE 0) out
+  unfolding flaggedReply flaggedOut keptOr
+  listed-size h = record { reply = rw (lt-leb (length fl) 65536 h); out = rw (lt-leb (length fl) 65536 h) }
+
+  module _ (few : length fl ≤ 65536) (m : ℕ) (e : m ≡ length (listed (length fl) (flagged fl))) where
+    pub listed-few : m ≤ 65536
+    listed-few = omega (arith, listed-le (length fl) (flagged fl))
+
+    pub write-pre : m ≤ length out → WritePre fl out
+    write-pre h = record { few = few; room = omega (arith, rows-length fl) }
+
+    pub listed-room : length out < m → Listed fl out (totalled ROOM m) out
+    unfolding flaggedReply flaggedOut keptOr
+    listed-room h =
+        let short : leb (length (flaggedRows fl)) (length out) ≡ false = lt-leb (length (flaggedRows fl)) (length out) (omega (arith, rows-length fl)) in
+        record { reply = rw (le-leb (length fl) 65536 few, short) (ap (totalled ROOM) e); out = rw (le-leb (length fl) 65536 few, short) }
+
+    pub listed-all : m ≤ length out → (out′ : List ℕ) → out′ ≡ over (flaggedRows fl) out → Listed fl out (totalled accepted m) out′
+    unfolding flaggedReply flaggedOut keptOr
+    listed-all h out′ q =
+        let fits : leb (length (flaggedRows fl)) (length out) ≡ true = le-leb (length (flaggedRows fl)) (length out) (omega (arith, rows-length fl)) in
+        record { reply = rw (le-leb (length fl) 65536 few, fits) (ap (totalled accepted) e); out = rw (le-leb (length fl) 65536 few, fits) q }
+
+-- Out keeps its length.
+pub listed-length : (fl o : List ℕ) (r : Reply) (o′ : List ℕ) → Listed fl o r o′ → length o′ ≡ length o
+unfolding flaggedReply flaggedOut keptOr
+listed-length fl o r o′ l = ap length (l .out) ∙ ⊎-elim small large (bool-cases (leb (length fl) 65536))
+  where
+    small : leb (length fl) 65536 ≡ true → length (flaggedOut fl o) ≡ length o
+    small q =
+        rw q
+        (⊎-elim (λ z. rw z (length-over (flaggedRows fl) o (leb-true (length (flaggedRows fl)) (length o) z))) (λ z. rw z)
+        (bool-cases (leb (length (flaggedRows fl)) (length o))))
+
+    large : leb (length fl) 65536 ≡ false → length (flaggedOut fl o) ≡ length o
+    large q = rw q
+
+pub listed-unique : (fl out : List ℕ) (r r′ : Reply) (o o′ : List ℕ) → Listed fl out r o → Listed fl out r′ o′ → (r ≡ r′) × (o ≡ o′)
+listed-unique fl out r r′ o o′ a b = (a .reply ∙ sym (b .reply), a .out ∙ sym (b .out))
