@@ -10,7 +10,7 @@ use Rattle.full.proofs.is_full.Statement.{statement}
 use Rattle.full.proofs.is_full.Tie as tie
 
 abbrev Inv-loop : tie.InvT-loop
-Inv-loop counts n k v j₀ at₀ j at = Column (λ e. ltb 0 (getD counts e 0)) n k v j at
+Inv-loop counts n k v j₀ at₀ j at = Column (λ i e. ltb 0 (getD counts e 0)) n k v j at
 
 abbrev μ-loop : tie.MeasureT-loop
 μ-loop counts n k v j₀ at₀ j at = k - j

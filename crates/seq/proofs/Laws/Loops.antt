@@ -1,5 +1,5 @@
 -- Loops that recur: what they know at each turn, and how a turn keeps it. Assumes nothing.
---   Column    a test of the entries v, n + v, 2 * n + v and so on, one for each of k rows of n
+--   Column    a test of the entries v, n + v, 2 * n + v and so on, one for each of k rows of n; `f j e` tests entry e of row j
 --   Filling   a slice that is filled from the front, entry i with `f i`
 -- Letters: n entries of a row, k rows, v column, j row; d the slice as lent, w as it is now; i entry.
 use Prim.Native.Nat.{ℕ, zero-le, _+_, _*_, _≤_, _<_}
@@ -18,15 +18,15 @@ use Rattle.seq.proofs.Laws.Memory.{over-nil, over-snoc}
 
 -- ---- a column
 -- The entry at hand is `at`, in row j; those before it pass.
-pub record Column (f : ℕ → Bool) (n k v j at : ℕ) : Type 0 where
+pub record Column (f : ℕ → ℕ → Bool) (n k v j at : ℕ) : Type 0 where
   pub rows : j ≤ k
   pub place : at ≡ j * n + v
-  pub passed : everyBelow j (λ i. f (i * n + v)) ≡ true
+  pub passed : everyBelow j (λ i. f i (i * n + v)) ≡ true
 
-pub column-start : (f : ℕ → Bool) (n k v : ℕ) → Column f n k v 0 v
-column-start f n k v = record { rows = zero-le; place = omega (arith, zero-mul n); passed = every-zero (λ i. f (i * n + v)) }
+pub column-start : (f : ℕ → ℕ → Bool) (n k v : ℕ) → Column f n k v 0 v
+column-start f n k v = record { rows = zero-le; place = omega (arith, zero-mul n); passed = every-zero (λ i. f i (i * n + v)) }
 
-module _ (f : ℕ → Bool) (n k v j at : ℕ) (node : v < n) (s : Column f n k v j at) (l : j < k) where
+module _ (f : ℕ → ℕ → Bool) (n k v j at : ℕ) (node : v < n) (s : Column f n k v j at) (l : j < k) where
   pub column-in : at < k * n
   column-in = omega (arith, s .place, row-le j k n l)
 
@@ -34,18 +34,18 @@ module _ (f : ℕ → Bool) (n k v j at : ℕ) (node : v < n) (s : Column f n k 
   pub column-near : at + n < k * n + k * n
   column-near = omega (arith, s .place, row-le j k n l)
 
-  pub column-fails : f at ≡ false → everyBelow k (λ i. f (i * n + v)) ≡ false
-  column-fails e = every-fails k (λ i. f (i * n + v)) j l (ap f (sym (s .place)) ∙ e)
+  pub column-fails : f j at ≡ false → everyBelow k (λ i. f i (i * n + v)) ≡ false
+  column-fails e = every-fails k (λ i. f i (i * n + v)) j l (ap (f j) (sym (s .place)) ∙ e)
 
-  pub column-step : f at ≡ true → Column f n k v (j + 1) (at + n)
+  pub column-step : f j at ≡ true → Column f n k v (j + 1) (at + n)
   column-step e = record {
     rows = omega arith;
     place = omega (arith, s .place, row-next j n);
-    passed = every-suc j (λ i. f (i * n + v)) (s .passed) (ap f (sym (s .place)) ∙ e);
+    passed = every-suc j (λ i. f i (i * n + v)) (s .passed) (ap (f j) (sym (s .place)) ∙ e);
   }
 
-pub column-end : (f : ℕ → Bool) (n k v j at : ℕ) → Column f n k v j at → k ≤ j → everyBelow k (λ i. f (i * n + v)) ≡ true
-column-end f n k v j at s l = ap (λ (z : ℕ). everyBelow z (λ i. f (i * n + v))) (le-antisymm l (s .rows)) ∙ s .passed
+pub column-end : (f : ℕ → ℕ → Bool) (n k v j at : ℕ) → Column f n k v j at → k ≤ j → everyBelow k (λ i. f i (i * n + v)) ≡ true
+column-end f n k v j at s l = ap (λ (z : ℕ). everyBelow z (λ i. f i (i * n + v))) (le-antisymm l (s .rows)) ∙ s .passed
 
 -- ---- a slice filled from the front
 pub record Filling (f : ℕ → ℕ) (d w : List ℕ) (i : ℕ) : Type 0 where

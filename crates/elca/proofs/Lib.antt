@@ -1,0 +1,7 @@
+pub mod Laws
+pub mod Entry
+mod Giving
+mod Flagging
+mod Writing
+mod Answering
+mod Searching
