@@ -17,7 +17,6 @@ use lib.Seq.{length-front, length-take-le, getD-take, take-at}
 use Rattle.seq.specs.Below.{someBelow, gather, listed}
 use Rattle.seq.specs.Memory.{zeroed, over}
 use Rattle.seq.proofs.Laws.Memory.{zeroed-over, length-over}
-use Rattle.seq.specs.Lists.{EachBelow}
 use Rattle.seq.proofs.Laws.Bools.{bool-cases}
 use Rattle.seq.proofs.Laws.Numbers.{row-le}
 use Rattle.seq.proofs.Laws.Below.{every-ext, some-ext}
@@ -33,7 +32,8 @@ use Rattle.index.proofs.Laws.Sizes.{product-le, sized-yes}
 use Rattle.index.proofs.Laws.Replies.{checked-size, checked-refused, checked-accepted, negative-size, none-checked, none-work, work-sized, work-kept, work-length, kept-accepted, kept-refused}
 use Rattle.index.proofs.Acceptance.{accepted-right, checked-right}
 use Rattle.answers.specs.Answers.{full, slca}
-use Rattle.answers.proofs.Laws.Full.{full-counts, full-parent}
+use Rattle.answers.proofs.Laws.Full.{full-parent}
+use Rattle.answers.proofs.Laws.Counts.{lists-below, full-right}
 use Rattle.answers.proofs.Laws.Engine.{slca-by}
 use Rattle.answers.specs.Searches.{isSlca, outRow, outOf, answers, roomed, outFits, slcaReply, slcaOut}
 use Rattle.listing.specs.Listing.{flagged, flaggedRows, flaggedReply, flaggedOut, Listed}
@@ -56,17 +56,16 @@ module _ (I : Index) (w : ℕ) (s : Sized 8 I w) (R : Right I) where
   pub nodes-in : nodes I ≤ w
   nodes-in = omega (arith, s .roomy, one-mul (nodes I), mul-le-mul-right {m = 1} {n = words I + 2} (nodes I) (omega arith))
 
-  lists-below : (j : ℕ) → j < I .positive → EachBelow (nodes I) (wanted I j)
-  lists-below j l = R .lists j (omega (arith, s .ended)) .list .below
+  some : I .positive ≤ length (I .ends)
+  some = omega (arith, s .ended)
 
   -- The lent counts tell which nodes are full.
   full-by : (v : ℕ) → v < nodes I → fullBy (take rows (I .counts)) (nodes I) (I .positive) v ≡ isFullNode v
   full-by v l =
       sym (fullBy-is _ _ _ _ _
       (every-ext (I .positive) _ _
-      (λ j h. ap (ltb 0)
-      (getD-take rows (I .counts) (j * nodes I + v) 0 (omega (arith, row-le j (I .positive) (nodes I) h)) ∙ R .counts j v (omega (arith, s .ended)) l))
-      ∙ sym (full-counts (I .parents) (I .positive) (wanted I) v)))
+      (λ j h. ap (ltb 0) (getD-take rows (I .counts) (j * nodes I + v) 0 (omega (arith, row-le j (I .positive) (nodes I) h))))
+      ∙ full-right I R some v l))
 
   abbrev pub flags : List ℕ
   flags = fullFlags (take rows (I .counts)) (nodes I)
@@ -90,7 +89,7 @@ module _ (I : Index) (w : ℕ) (s : Sized 8 I w) (R : Right I) where
     flags = λ v l. full-flag v l ∙ ap (λ (b : Bool). cond b 1 0) (sym (flag-test v l));
     upward = λ c l e. full-flag (parent (I .parents) (suc c)) (omega (arith, parents-before (I .parents) (nodes I) (R .tree .preorder) c l))
         ∙ ap (λ (b : Bool). cond b 1 0)
-        (full-parent (I .parents) (R .tree .preorder) (I .positive) (wanted I) lists-below c l (sym (flag-test (suc c) l) ∙ eq-eqb (getD flags (suc c) 0) 1 e));
+        (full-parent (I .parents) (R .tree .preorder) (I .positive) (wanted I) (lists-below I R some) c l (sym (flag-test (suc c) l) ∙ eq-eqb (getD flags (suc c) 0) 1 e));
   }
 
   pub marks-are : marksBy (I .parents) (take rows (I .counts)) ≡ slcaMarks I
@@ -105,7 +104,7 @@ module _ (I : Index) (w : ℕ) (s : Sized 8 I w) (R : Right I) where
   unfolding markBy
   mark-slca v =
       one (isFullNode v) (someBelow (nodes I) (λ c. child (I .parents) v c && isFullNode c))
-      ∙ sym (slca-by (I .parents) (R .tree .preorder) (I .positive) (wanted I) lists-below v)
+      ∙ sym (slca-by (I .parents) (R .tree .preorder) (I .positive) (wanted I) (lists-below I R some) v)
     where
       one : (a b : Bool) → eqb (cond a (cond b 2 1) 0) 1 ≡ (a && not b)
       one true true = refl
