@@ -1,0 +1,17 @@
+/* The calls of sonquilate.h in plain C, by the same algorithms and with no proof: what bench.c measures the library against. */
+#ifndef PLAIN_H
+#define PLAIN_H
+
+#include "sonquilate.h"
+
+typedef struct lent {
+    const uint32_t *parents, *tags, *ends, *occurrences, *counts;
+    size_t nodes, tags_len, ends_len, occurrences_len, counts_len;
+    uint32_t p, q;
+} lent;
+
+sq_reply plain_check(const lent *x, uint32_t *work, size_t work_len);
+sq_reply plain_elca(const lent *x, uint32_t *work, size_t work_len, uint32_t *out, size_t out_len, uint32_t *own, size_t own_len);
+sq_reply plain_slca(const lent *x, uint32_t *work, size_t work_len, uint32_t *out, size_t out_len);
+
+#endif

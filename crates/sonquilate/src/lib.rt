@@ -1,0 +1,74 @@
+// The C interface: each function is one entry of a crate below it, under the name and with the parameters that include/sonquilate.h declares.
+// A slice is a pointer and then a length. What a function promises is what the function that it calls promises.
+ghost use Rattle.index.specs.Contracts.{lent, Checked};
+ghost use Rattle.slca.specs.Contracts as slcas;
+ghost use Rattle.elca.specs.Contracts as elcas;
+use index::Reply;
+
+// The index check alone.
+#[no_mangle]
+pub extern "C" fn sq_check(
+    parents: &[u32],
+    tags: &[u32],
+    p: u32,
+    q: u32,
+    ends: &[u32],
+    occurrences: &[u32],
+    counts: &[u32],
+    work: &mut [u32],
+) -> Reply
+    ensures { λ r. ⌜ Checked (lent (now (parents .entry)) (now (tags .entry)) p q (now (ends .entry)) (now (occurrences .entry))
+        (now (counts .entry))) (now (work .entry)) r (now (work .exit)) ⌝ }
+{
+    index::check(parents, tags, p, q, ends, occurrences, counts, work)
+}
+
+// ELCA, with own counts.
+#[no_mangle]
+pub extern "C" fn sq_elca(
+    parents: &[u32],
+    tags: &[u32],
+    p: u32,
+    q: u32,
+    ends: &[u32],
+    occurrences: &[u32],
+    counts: &[u32],
+    work: &mut [u32],
+    out: &mut [u32],
+    own: &mut [u32],
+) -> Reply
+    ensures { λ r. ⌜ elcas.Searched (lent (now (parents .entry)) (now (tags .entry)) p q (now (ends .entry)) (now (occurrences .entry))
+        (now (counts .entry))) (now (work .entry)) (now (out .entry)) (now (own .entry)) r (now (work .exit)) (now (out .exit)) (now (own .exit)) ⌝ }
+{
+    elca::elca(
+        parents,
+        tags,
+        p,
+        q,
+        ends,
+        occurrences,
+        counts,
+        work,
+        out,
+        own,
+    )
+}
+
+// SLCA.
+#[no_mangle]
+pub extern "C" fn sq_slca(
+    parents: &[u32],
+    tags: &[u32],
+    p: u32,
+    q: u32,
+    ends: &[u32],
+    occurrences: &[u32],
+    counts: &[u32],
+    work: &mut [u32],
+    out: &mut [u32],
+) -> Reply
+    ensures { λ r. ⌜ slcas.Searched (lent (now (parents .entry)) (now (tags .entry)) p q (now (ends .entry)) (now (occurrences .entry))
+        (now (counts .entry))) (now (work .entry)) (now (out .entry)) r (now (work .exit)) (now (out .exit)) ⌝ }
+{
+    slca::slca(parents, tags, p, q, ends, occurrences, counts, work, out)
+}

@@ -1,0 +1,6 @@
+/* C's own header, as much of it as the hosts use (see stddef.h). */
+#ifndef STDINT_H
+#define STDINT_H
+typedef unsigned int uint32_t;
+typedef unsigned long uint64_t;
+#endif
