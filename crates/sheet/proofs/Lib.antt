@@ -1,0 +1,5 @@
+pub mod Laws
+mod Heading
+mod Rowing
+mod Lining
+mod Tabling
