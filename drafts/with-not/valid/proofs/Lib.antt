@@ -1,0 +1,3 @@
+mod Negating
+mod Above
+mod Reached
