@@ -1,3 +1,0 @@
-mod Negating
-mod Above
-mod Reached
