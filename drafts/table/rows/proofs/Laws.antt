@@ -1,0 +1,2 @@
+-- Laws of lists.
+pub mod Lists

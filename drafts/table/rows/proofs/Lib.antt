@@ -1,0 +1,4 @@
+mod Laws
+mod Lending
+mod Answering
+mod Tabled

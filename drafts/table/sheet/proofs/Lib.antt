@@ -1,0 +1,6 @@
+pub mod Laws
+pub mod Meaning
+mod Heading
+mod Rowing
+mod Lining
+mod Tabling

@@ -1,0 +1,4 @@
+pub mod Laws
+pub mod Meaning
+mod Scanning
+mod Writing

@@ -1,0 +1,4 @@
+mod Negating
+mod Above
+mod Reached
+mod Pointing
