@@ -1,4 +1,0 @@
--- The laws of this crate's definitions.
-pub mod Lent
-pub mod Output
-pub mod Searches

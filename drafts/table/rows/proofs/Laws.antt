@@ -1,2 +1,0 @@
--- Laws of lists.
-pub mod Lists

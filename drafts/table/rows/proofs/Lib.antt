@@ -1,4 +1,0 @@
-mod Laws
-mod Lending
-mod Answering
-mod Tabled

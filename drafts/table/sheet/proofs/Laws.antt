@@ -1,3 +1,0 @@
--- The laws of this crate's definitions.
-pub mod Table
-pub mod Reading

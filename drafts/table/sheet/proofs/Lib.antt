@@ -1,6 +1,0 @@
-pub mod Laws
-pub mod Meaning
-mod Heading
-mod Rowing
-mod Lining
-mod Tabling

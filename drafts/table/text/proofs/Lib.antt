@@ -1,4 +1,0 @@
-pub mod Laws
-pub mod Meaning
-mod Scanning
-mod Writing

@@ -1,3 +1,0 @@
-pub mod Twins
-pub mod Order
-pub mod Flags

@@ -1,4 +1,0 @@
-mod Negating
-mod Above
-mod Reached
-mod Pointing
