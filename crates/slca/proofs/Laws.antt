@@ -2,30 +2,31 @@
 --   full-flag       the flags made from the counts are those of the full nodes
 --   marks-are       what `mark_slca` makes of them are the marks
 --   mark-slca       a node is marked 1 exactly where it is an SLCA
+--   marked-over ..  what `flag_slca` leaves in work where it accepts
 --   marked-unique, searched-unique   no second outcome fits a contract
 use Prim.Native.Nat.{ℕ, suc, _+_, _*_, _≤_, _<_}
 use mathlib.Core.Path.{_≡_, refl, sym, ap, ap₂, _∙_, subst}
 use mathlib.Core.Logic.{_⊎_, inl, inr, ⊎-elim}
-use mathlib.Core.List.{List, [], _∷_, _++_}
+use mathlib.Core.List.{List, _++_}
 use mathlib.Core.Bool.{Bool, true, false, not, cond, _&&_}
 use native.Mathlib.Nat.{mul-le-mul-right, one-mul}
 use native.Mathlib.Omega.{arith}
-use lib.Dec.{eqb, ltb, leb}
-use borrow.Author.Tests.{eq-eqb, eqb-true, eqb-false, le-leb}
+use lib.Dec.{eqb, ltb}
+use borrow.Author.Tests.{eq-eqb, eqb-true, eqb-false}
 use lib.ListN.{length, getD, take, drop, replicate}
 use lib.Seq.{length-front, length-take-le, getD-take, take-at}
-use Rattle.seq.specs.Below.{someBelow, gather, listed}
+use Rattle.seq.specs.Below.{someBelow}
 use Rattle.seq.specs.Memory.{zeroed, over}
 use Rattle.seq.proofs.Laws.Memory.{zeroed-over, length-over}
 use Rattle.seq.proofs.Laws.Bools.{bool-cases}
 use Rattle.seq.proofs.Laws.Numbers.{row-le}
 use Rattle.seq.proofs.Laws.Below.{every-ext, some-ext}
-use Rattle.seq.proofs.Laws.Gather.{length-tabulate, getD-tabulate, tabulate-ext, gather-ext}
+use Rattle.seq.proofs.Laws.Gather.{length-tabulate, getD-tabulate, tabulate-ext}
 use Rattle.tree.specs.Tree.{parent, child}
 use Rattle.tree.proofs.Laws.Under.{parents-before}
 use Rattle.index.specs.declared.Reply.{Reply}
 use Rattle.index.specs.Index.{Index, nodes, words, wanted}
-use Rattle.index.specs.Replies.{accepted, SIZE, ROOM, refused, totalled, room, checkReply, workAfter, keptOr}
+use Rattle.index.specs.Replies.{accepted, SIZE, refused, room, checkReply, workAfter, keptOr}
 use Rattle.index.specs.Plain.{Sized, Right}
 use Rattle.index.specs.Contracts.{Checked}
 use Rattle.index.proofs.Laws.Sizes.{product-le, sized-yes}
@@ -35,8 +36,9 @@ use Rattle.answers.specs.Answers.{full, slca}
 use Rattle.answers.proofs.Laws.Full.{full-parent}
 use Rattle.answers.proofs.Laws.Counts.{lists-below, full-right}
 use Rattle.answers.proofs.Laws.Engine.{slca-by}
-use Rattle.answers.specs.Searches.{isSlca, outRow, outOf, answers, roomed, outFits, slcaReply, slcaOut}
+use Rattle.answers.specs.Searches.{isSlca, slcaReply, slcaOut}
 use Rattle.listing.specs.Listing.{flagged, flaggedRows, flaggedReply, flaggedOut, Listed}
+use Rattle.listing.proofs.Laws.{rows-by, reply-by}
 use Rattle.full.specs.Full.{fullBy, fullFlags}
 use Rattle.full.proofs.Laws.{fullFlags-at, length-fullFlags, fullBy-is}
 use Rattle.slca.specs.Marks.{markBy, marksOf, marksBy, slcaMarks}
@@ -182,30 +184,63 @@ module _ (I : Index) (w : List ℕ) (r : Reply) (w₁ : List ℕ) (c : Checked I
               ∙ sym (kept-accepted (checkReply I w) (slcaMarks I) (workAfter 8 I w) (ap (λ (z : Reply). z .refusal) (sym (c .reply)) ∙ e));
         }
 
--- ---- `slca`, on what `flag_slca` leaves
--- The answers that are listed: those marked 1.
-module _ (I : Index) (w : ℕ) (s : Sized 8 I w) (R : Right I) where
-  marked-slca : (v : ℕ) → v < nodes I → flagged (slcaMarks I) v ≡ isSlca I v
-  unfolding flagged slcaMarks isSlca
-  marked-slca v l = ap (λ (x : ℕ). eqb x 1) (getD-tabulate (nodes I) _ v 0 l) ∙ mark-slca I w s R v
+-- ---- on what `flag_slca` leaves: a call that is refused, and one that is accepted
+-- Those marked 1 are the SLCAs.
+pub marked-slca : (I : Index) (w : ℕ) → Sized 8 I w → Right I → (v : ℕ) → v < nodes I → flagged (slcaMarks I) v ≡ isSlca I v
+unfolding flagged slcaMarks isSlca
+marked-slca I w s R v l = ap (λ (x : ℕ). eqb x 1) (getD-tabulate (nodes I) _ v 0 l) ∙ mark-slca I w s R v
 
-  rows-slca : flaggedRows (slcaMarks I) ≡ outOf I (isSlca I)
-  unfolding flaggedRows outOf
-  rows-slca =
-      ap (λ (n : ℕ). gather n (flagged (slcaMarks I)) outRow) (length-marks I) ∙ gather-ext (nodes I) _ _ outRow outRow marked-slca (λ v l. refl)
+module _ (I : Index) (w : List ℕ) (r : Reply) (w₁ : List ℕ) (m : Marked I w r w₁) where
+  pub marked-length : length w₁ ≡ length w
+  marked-length =
+      ap length (m .work)
+      ∙ ⊎-elim
+      (λ e. ap length (kept-accepted (checkReply I w) (slcaMarks I) (workAfter 8 I w) e)
+      ∙ length-over (slcaMarks I) (workAfter 8 I w) (omega (arith, length-marks I, work-length 8 I w, nodes-in I (length w) (accepted-right I w e .0) (accepted-right I w e .1)))
+      ∙ work-length 8 I w)
+      (λ ne. ap length (kept-refused (checkReply I w) (slcaMarks I) (workAfter 8 I w) ne) ∙ work-length 8 I w)
+      (is-zero (checkReply I w .refusal))
+    where
+      is-zero : (x : ℕ) → (x ≡ accepted) ⊎ (x ≡ accepted → ⊥)
+      is-zero x = ⊎-elim (λ q. inl (eqb-true x 0 q)) (λ q. inr (eqb-false x 0 q)) (bool-cases (eqb x 0))
 
-  count-slca : length (listed (length (slcaMarks I)) (flagged (slcaMarks I))) ≡ answers I (isSlca I)
-  unfolding answers listed
-  count-slca =
-      ap (λ (n : ℕ). length (gather n (flagged (slcaMarks I)) (λ v. v ∷ []))) (length-marks I)
-      ∙ ap length (gather-ext (nodes I) _ _ (λ v. v ∷ []) (λ v. v ∷ []) marked-slca (λ v l. refl))
+  module _ (ne : r .refusal ≡ accepted → ⊥) where
+    pub marked-refuses : checkReply I w .refusal ≡ accepted → ⊥
+    marked-refuses q = ne (ap (λ (x : Reply). x .refusal) (m .reply) ∙ q)
 
-  pub listed-slca : (o : List ℕ) → flaggedReply (slcaMarks I) (length o) ≡ roomed I (isSlca I) (outFits I (isSlca I) o)
-  unfolding flaggedReply roomed outFits
-  listed-slca o =
-      rw (le-leb (length (slcaMarks I)) 65536 (omega (arith, length-marks I, s .fewNodes)))
-      (ap₂ (λ (t : List ℕ) (m : ℕ). totalled (cond (leb (length t) (length o)) accepted ROOM) m) rows-slca count-slca)
+    pub marked-refused-work : w₁ ≡ workAfter 8 I w
+    marked-refused-work = m .work ∙ kept-refused (checkReply I w) (slcaMarks I) (workAfter 8 I w) marked-refuses
 
+  module _ (e : r .refusal ≡ accepted) where
+    pub marked-accepts : checkReply I w .refusal ≡ accepted
+    marked-accepts = ap (λ (x : Reply). x .refusal) (sym (m .reply)) ∙ e
+
+    pub marked-sized : Sized 8 I (length w)
+    marked-sized = accepted-right I w marked-accepts .0
+
+    pub marked-right : Right I
+    marked-right = accepted-right I w marked-accepts .1
+
+    pub marked-over : w₁ ≡ over (slcaMarks I) (zeroed (room I) w)
+    marked-over =
+        m .work ∙ kept-accepted (checkReply I w) (slcaMarks I) (workAfter 8 I w) marked-accepts
+        ∙ ap (over (slcaMarks I)) (work-sized 8 I w (sized-yes 8 I (length w) marked-sized))
+
+    pub marked-nodes : nodes I ≤ length w₁
+    marked-nodes = omega (arith, marked-length, nodes-in I (length w) marked-sized marked-right)
+
+    pub marked-first : take (nodes I) w₁ ≡ slcaMarks I
+    unfolding over
+    marked-first = ap (take (nodes I)) marked-over ∙ take-at (slcaMarks I) _ (nodes I) (length-marks I)
+
+    -- The front cleared again.
+    pub marked-cleared : zeroed (nodes I) w₁ ≡ workAfter 8 I w
+    marked-cleared =
+        ap₂ zeroed (sym (length-marks I)) marked-over
+        ∙ zeroed-over (room I) (slcaMarks I) w (omega (arith, length-marks I, one-mul (nodes I), mul-le-mul-right {m = 1} {n = words I + 2} (nodes I) (omega arith)))
+        ∙ sym (work-sized 8 I w (sized-yes 8 I (length w) marked-sized))
+
+-- ---- `slca`
 module _ (I : Index) (w o : List ℕ) where
   pub slca-negative : (I .negative ≡ 0 → ⊥) → Searched I w o (refused SIZE 0) w o
   unfolding slcaReply slcaOut
@@ -221,73 +256,41 @@ module _ (I : Index) (w o : List ℕ) where
       size-refuses q = omega arith
 
   module _ (z : I .negative ≡ 0) (r : Reply) (w₁ : List ℕ) (m : Marked I w r w₁) where
-    pub marked-length : length w₁ ≡ length w
-    marked-length =
-        ap length (m .work)
-        ∙ ⊎-elim
-        (λ e. ap length (kept-accepted (checkReply I w) (slcaMarks I) (workAfter 8 I w) e)
-        ∙ length-over (slcaMarks I) (workAfter 8 I w) (omega (arith, length-marks I, work-length 8 I w, nodes-in I (length w) (accepted-right I w e .0) (accepted-right I w e .1)))
-        ∙ work-length 8 I w)
-        (λ ne. ap length (kept-refused (checkReply I w) (slcaMarks I) (workAfter 8 I w) ne) ∙ work-length 8 I w)
-        (is-zero (checkReply I w .refusal))
-      where
-        is-zero : (x : ℕ) → (x ≡ accepted) ⊎ (x ≡ accepted → ⊥)
-        is-zero x = ⊎-elim (λ q. inl (eqb-true x 0 q)) (λ q. inr (eqb-false x 0 q)) (bool-cases (eqb x 0))
-
     pub slca-refused : (r .refusal ≡ accepted → ⊥) → Searched I w o r w₁ o
     unfolding slcaReply slcaOut
     slca-refused ne =
-        let ne′ : checkReply I w .refusal ≡ accepted → ⊥ = λ q. ne (ap (λ (x : Reply). x .refusal) (m .reply) ∙ q) in
-        let same : slcaReply I w o ≡ checkReply I w = none-checked I z (length w) _ ∙ checked-refused I w _ ne′ in
+        let same : slcaReply I w o ≡ checkReply I w = none-checked I z (length w) _ ∙ checked-refused I w _ (marked-refuses I w r w₁ m ne) in
         record {
           reply = m .reply ∙ sym same;
-          work = m .work ∙ kept-refused (checkReply I w) (slcaMarks I) (workAfter 8 I w) ne′ ∙ sym (none-work I z w);
-          out = sym (kept-refused (slcaReply I w o) _ o (λ q. ne′ (sym (ap (λ (x : Reply). x .refusal) same) ∙ q)));
+          work = marked-refused-work I w r w₁ m ne ∙ sym (none-work I z w);
+          out = sym (kept-refused (slcaReply I w o) _ o (λ q. marked-refuses I w r w₁ m ne (sym (ap (λ (x : Reply). x .refusal) same) ∙ q)));
         }
 
     module _ (e : r .refusal ≡ accepted) where
-      accepts : checkReply I w .refusal ≡ accepted
-      accepts = ap (λ (x : Reply). x .refusal) (sym (m .reply)) ∙ e
-
-      here : w₁ ≡ over (slcaMarks I) (workAfter 8 I w)
-      here = m .work ∙ kept-accepted (checkReply I w) (slcaMarks I) (workAfter 8 I w) accepts
-
-      size₁ : Sized 8 I (length w)
-      size₁ = accepted-right I w accepts .0
-
-      right₁ : Right I
-      right₁ = accepted-right I w accepts .1
-
-      pub slca-nodes : nodes I ≤ length w₁
-      slca-nodes = omega (arith, marked-length, nodes-in I (length w) size₁ right₁)
-
-      pub slca-marks : take (nodes I) w₁ ≡ slcaMarks I
-      unfolding over
-      slca-marks = ap (take (nodes I)) here ∙ take-at (slcaMarks I) _ (nodes I) (length-marks I)
-
-      -- The front is cleared again.
       pub slca-cleared : (c : List ℕ) → c ≡ replicate (length (take (nodes I) w₁)) 0 → c ++ drop (nodes I) w₁ ≡ workAfter 0 I w
       unfolding zeroed
       slca-cleared c q =
-          ap₂ (λ (a b : List ℕ). a ++ drop (nodes I) b) (q ∙ ap (λ (n : ℕ). replicate n 0) (length-take-le (nodes I) w₁ slca-nodes)) here
-          ∙ ap₂ (λ (n : ℕ) (t : List ℕ). replicate n 0 ++ drop n (over (slcaMarks I) t)) (sym (length-marks I)) sized-work
-          ∙ zeroed-over (room I) (slcaMarks I) w (omega (arith, length-marks I, one-mul (nodes I), mul-le-mul-right {m = 1} {n = words I + 2} (nodes I) (omega arith)))
-          ∙ sym sized-work ∙ sym (none-work I z w)
-        where
-          sized-work : workAfter 8 I w ≡ zeroed (room I) w
-          sized-work = work-sized 8 I w (sized-yes 8 I (length w) size₁)
+          ap (λ (a : List ℕ). a ++ drop (nodes I) w₁) (q ∙ ap (λ (n : ℕ). replicate n 0) (length-take-le (nodes I) w₁ (marked-nodes I w r w₁ m e)))
+          ∙ marked-cleared I w r w₁ m e ∙ sym (none-work I z w)
+
+      listed-slca : (v : ℕ) → v < nodes I → flagged (slcaMarks I) v ≡ isSlca I v
+      listed-slca = marked-slca I (length w) (marked-sized I w r w₁ m e) (marked-right I w r w₁ m e)
 
       pub slca-accepted : (r′ : Reply) (o′ c : List ℕ) → Listed (take (nodes I) w₁) o r′ o′ → c ≡ replicate (length (take (nodes I) w₁)) 0 →
           Searched I w o r′ (c ++ drop (nodes I) w₁) o′
       unfolding slcaReply slcaOut flaggedOut
       slca-accepted r′ o′ c l q =
+          let few : nodes I ≤ 65536 = marked-sized I w r w₁ m e .fewNodes in
           let same : flaggedReply (take (nodes I) w₁) (length o) ≡ slcaReply I w o =
-          ap (λ (t : List ℕ). flaggedReply t (length o)) slca-marks ∙ listed-slca I (length w) size₁ right₁ o
-          ∙ sym (none-checked I z (length w) _ ∙ checked-accepted I w _ accepts) in
+          ap (λ (t : List ℕ). flaggedReply t (length o)) (marked-first I w r w₁ m e) ∙ reply-by I (isSlca I) (slcaMarks I) (length-marks I) few listed-slca o
+          ∙ sym (none-checked I z (length w) _ ∙ checked-accepted I w _ (marked-accepts I w r w₁ m e)) in
           record {
             reply = l .reply ∙ same;
             work = slca-cleared c q;
-            out = l .out ∙ ap₂ (λ (x : Reply) (t : List ℕ). keptOr x t o) same (ap flaggedRows slca-marks ∙ rows-slca I (length w) size₁ right₁);
+            out =
+                l .out
+                ∙ ap₂ (λ (x : Reply) (t : List ℕ). keptOr x t o) same
+                (ap flaggedRows (marked-first I w r w₁ m e) ∙ rows-by I (isSlca I) (slcaMarks I) (length-marks I) few listed-slca);
           }
 
 -- ---- no second outcome fits

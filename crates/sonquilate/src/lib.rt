@@ -3,6 +3,7 @@
 ghost use Rattle.index.specs.Contracts.{lent, Checked};
 ghost use Rattle.slca.specs.Contracts as slcas;
 ghost use Rattle.elca.specs.Contracts as elcas;
+ghost use Rattle.valid.specs.Contracts as valids;
 use index::Reply;
 
 // The index check alone.
@@ -71,4 +72,23 @@ pub extern "C" fn sq_slca(
         (now (counts .entry))) (now (work .entry)) (now (out .entry)) r (now (work .exit)) (now (out .exit)) ⌝ }
 {
     slca::slca(parents, tags, p, q, ends, occurrences, counts, work, out)
+}
+
+// Valid SLCA, the search with NOT.
+#[no_mangle]
+pub extern "C" fn sq_valid(
+    parents: &[u32],
+    tags: &[u32],
+    p: u32,
+    q: u32,
+    ends: &[u32],
+    occurrences: &[u32],
+    counts: &[u32],
+    work: &mut [u32],
+    out: &mut [u32],
+) -> Reply
+    ensures { λ r. ⌜ valids.Searched (lent (now (parents .entry)) (now (tags .entry)) p q (now (ends .entry)) (now (occurrences .entry))
+        (now (counts .entry))) (now (work .entry)) (now (out .entry)) r (now (work .exit)) (now (out .exit)) ⌝ }
+{
+    valid::valid(parents, tags, p, q, ends, occurrences, counts, work, out)
 }

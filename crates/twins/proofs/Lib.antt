@@ -1,3 +1,4 @@
+pub mod Laws
 mod Places
 mod Piles
 mod Digits

@@ -1,51 +1,20 @@
 -- The three rows from call to call: cleared, put in order, flagged, and cleared but for the flags. Assumes nothing.
---   put-before, put-inside, put-after   an entry of a list in which a part has been put back
 -- Letters: p parents, t tags, n nodes, w rows; r, where the order begins in the last two rows; a, a part that was lent, as it came back.
 use Prim.Native.Nat.{ℕ, _+_, _-_, _*_, _≤_, _<_}
-use mathlib.Core.Path.{_≡_, refl, sym, ap, ap₂, _∙_}
+use mathlib.Core.Path.{_≡_, sym, ap, ap₂, _∙_}
 use mathlib.Core.Logic.{_⊎_, inl, inr, ⊎-elim}
 use mathlib.Core.List.{List, [], _++_, append-nil}
-use mathlib.Core.Bool.{true, false}
 use native.Mathlib.Nat.{add-assoc}
 use native.Mathlib.Omega.{arith}
-use borrow.Author.Tests.{le-leb, lt-leb, eq-eqb, ne-eqb}
-use borrow.Rule.Slice.PartMut.{putMid, same-len-mid}
-use lib.Dec.{eqb, leb}
-use lib.ListN.{length, getD, take, drop, replicate, length-append, length-drop, length-replicate, getD-replicate, List·getD-append, drop-of-length-le}
-use lib.Seq.{length-front, length-take-le, getD-take, getD-drop, getD-append-add, ext-getD}
+use borrow.Rule.Slice.PartMut.{putMid}
+use lib.ListN.{length, getD, take, drop, replicate, length-drop, length-replicate, getD-replicate, List·getD-append, drop-of-length-le}
+use lib.Seq.{length-front, length-take-le, getD-take, ext-getD}
 use Rattle.seq.specs.Below.{tabulate}
-use Rattle.seq.specs.Memory.{over}
-use Rattle.seq.proofs.Laws.Bools.{and-both, and-false-left, and-false-right}
 use Rattle.seq.proofs.Laws.Gather.{length-tabulate, getD-tabulate}
-use Rattle.twins.specs.Twins.{twinFlag, fitsTwins, flagRows, twinRows}
+use Rattle.seq.proofs.Laws.Parts.{put-long, put-before, put-inside, put-after}
+use Rattle.twins.specs.Twins.{twinFlag, flagRows}
 use Rattle.twins.specs.Order.{entry, SortPre, Sorted}
 use Rattle.twins.specs.Flags.{FlagPre, Flagged, MakePre}
-
--- ---- a part that has been put back
-module _ (a k : ℕ) (xs ys : List ℕ) (h : a + k ≤ length xs) (e : length ys ≡ k) where
-  front : length (take a xs) ≡ a
-  front = length-take-le a xs (omega arith)
-
-  pub put-long : length (putMid a k xs ys) ≡ length xs
-  put-long = same-len-mid a k xs ys (e ∙ sym (length-take-le k (drop a xs) (omega (arith, length-drop a xs))))
-
-  pub put-before : (i : ℕ) → i < a → getD (putMid a k xs ys) i 0 ≡ getD xs i 0
-  put-before i l = List·getD-append (take a xs) _ 0 i (omega (arith, front)) ∙ getD-take a xs i 0 l
-
-  pub put-inside : (i : ℕ) → i < k → getD (putMid a k xs ys) (a + i) 0 ≡ getD ys i 0
-  put-inside i l =
-      ap (λ (z : ℕ). getD (putMid a k xs ys) (z + i) 0) (sym front) ∙ getD-append-add (take a xs) _ i 0 ∙ List·getD-append ys _ 0 i (omega arith)
-
-  put-past : (i : ℕ) → getD (putMid a k xs ys) (a + (k + i)) 0 ≡ getD xs (a + (k + i)) 0
-  put-past i =
-      ap₂ (λ (z y : ℕ). getD (putMid a k xs ys) (z + (y + i)) 0) (sym front) (sym e) ∙ getD-append-add (take a xs) _ (length ys + i) 0
-      ∙ getD-append-add ys _ i 0 ∙ getD-drop k (drop a xs) i 0 ∙ getD-drop a xs (k + i) 0
-
-  pub put-after : (i : ℕ) → a + k ≤ i → getD (putMid a k xs ys) i 0 ≡ getD xs i 0
-  put-after i l = ap (λ (z : ℕ). getD (putMid a k xs ys) z 0) parts ∙ put-past (i - (a + k)) ∙ ap (λ (z : ℕ). getD xs z 0) (sym parts)
-    where
-      parts : i ≡ a + (k + (i - (a + k)))
-      parts = omega arith
 
 -- ---- the rows
 module _ (p t w : List ℕ) (pre : MakePre p t w) where
@@ -195,48 +164,3 @@ module _ (p t w : List ℕ) (pre : MakePre p t w) where
             pub make-rows : putMid n (length w₄ - n) w₄ a₅ ≡ flagRows p t
             unfolding flagRows
             make-rows = ap₂ (λ (x y : List ℕ). x ++ y) flags₅ (ap₂ (λ (x y : List ℕ). x ++ y) zeros₅ nothing ∙ append-nil (replicate (n * 2) 0))
-
--- ---- the whole call
-pub length-flagRows : (p t : List ℕ) → length (flagRows p t) ≡ length p * 3
-unfolding flagRows
-length-flagRows p t =
-    omega (arith, length-append (tabulate (length p) (twinFlag p t)) (replicate (length p * 2) 0), length-tabulate (length p) (twinFlag p t), length-replicate {A = ℕ} (length p * 2) 0)
-
-module _ (p t w : List ℕ) where
-  kept : fitsTwins p t (length w) ≡ false → w ≡ twinRows p t w
-  unfolding twinRows
-  kept e = rw e
-
-  pub twins-many : 65536 < length p → w ≡ twinRows p t w
-  unfolding fitsTwins
-  twins-many h = kept (and-false-left _ _ (lt-leb (length p) 65536 h))
-
-  pub twins-untagged : (length t ≡ length p → ⊥) → w ≡ twinRows p t w
-  unfolding fitsTwins
-  twins-untagged h = kept (and-false-right (leb (length p) 65536) _ (and-false-left _ _ (ne-eqb (length t) (length p) h)))
-
-  pub twins-short : length w < length p * 3 → w ≡ twinRows p t w
-  unfolding fitsTwins
-  twins-short h = kept (and-false-right (leb (length p) 65536) _ (and-false-right (eqb (length t) (length p)) _ (lt-leb (length p * 3) (length w) h)))
-
-  module _ (few : length p ≤ 65536) (tagged : length t ≡ length p) (room : length p * 3 ≤ length w) where
-    fits : fitsTwins p t (length w) ≡ true
-    unfolding fitsTwins
-    fits = and-both _ _ (le-leb (length p) 65536 few) (and-both _ _ (eq-eqb (length t) (length p) tagged) (le-leb (length p * 3) (length w) room))
-
-    pub twins-made : (a : List ℕ) → a ≡ flagRows p t → a ++ drop (length p * 3) w ≡ twinRows p t w
-    unfolding twinRows over
-    twins-made a e = rw fits (ap₂ (λ (x : List ℕ) (z : ℕ). x ++ drop z w) e (sym (length-flagRows p t)))
-
-    pub twins-pre : (length p ≡ 0 → ⊥) → MakePre p t (take (length p * 3) w)
-    twins-pre ne = record { some = omega arith; few = few; tagged = tagged; long = length-take-le (length p * 3) w room }
-
-    -- With no node there is nothing to write.
-    pub twins-empty : length p ≡ 0 → w ≡ twinRows p t w
-    twins-empty z = sym (ap₂ (λ (x : List ℕ) (y : ℕ). x ++ drop y w) none zero-rows) ∙ twins-made (flagRows p t) refl
-      where
-        none : flagRows p t ≡ []
-        none = drop-of-length-le (flagRows p t) {i = 0} (omega (arith, length-flagRows p t))
-
-        zero-rows : length p * 3 ≡ 0
-        zero-rows = omega arith

@@ -5,7 +5,7 @@ use lib.ListN.{length}
 use lib.Seq.{length-take-le}
 use Rattle.index.proofs.Laws.Replies.{work-length}
 use Rattle.listing.proofs.Laws.{listed-length}
-use Rattle.slca.proofs.Laws.{slca-negative, marked-length, slca-refused, slca-nodes, slca-cleared, slca-accepted}
+use Rattle.slca.proofs.Laws.{slca-negative, marked-length, slca-refused, marked-nodes, slca-cleared, slca-accepted}
 use Rattle.slca.proofs.slca.Statement.{statement}
 use Rattle.slca.proofs.slca.Tie as tie
 
@@ -25,13 +25,13 @@ flag-slca-requires : tie.Need-flag-slca-requires
 flag-slca-requires c κs = tt
 
 same-length : tie.Need-same-length
-same-length c = marked-length _ _ [] (c .before .before .before .before .before .before .if1 .left) _ _ (c .before .before .before .before .flag-slca .ensures)
+same-length c = marked-length _ _ _ _ (c .before .before .before .before .flag-slca .ensures)
 
 returns-2 : tie.Need-returns-2
 returns-2 c = slca-refused _ _ _ (c .before .before .before .before .before .before .if1 .left) _ _ (c .before .before .before .before .flag-slca .ensures) (c .if2 .taken)
 
 slice-reshare-prefix-list-flagged : tie.Need-slice-reshare-prefix-list-flagged
-slice-reshare-prefix-list-flagged c = slca-nodes _ _ [] (none c .if1 .left) _ _ (flagging c .flag-slca .ensures) (c .if2 .left)
+slice-reshare-prefix-list-flagged c = marked-nodes _ _ _ _ (flagging c .flag-slca .ensures) (c .if2 .left)
 
 slice-aggregate-list-flagged : tie.Need-slice-aggregate-list-flagged
 slice-aggregate-list-flagged c = sym (length-take-le _ _ (slice-reshare-prefix-list-flagged (c .before)))

@@ -1,7 +1,7 @@
--- `twins::flag_twins` meets its contract: the cases of Making.
+-- `twins::flag_twins` meets its contract: the cases of Laws.
 use mathlib.Core.Path.{sym}
 use lib.Seq.{length-take-le}
-use Rattle.twins.proofs.Making.{twins-many, twins-untagged, twins-short, twins-empty, twins-pre, twins-made}
+use Rattle.twins.proofs.Laws.{twins-many, twins-untagged, twins-short, twins-empty, twins-pre, twins-made}
 use borrow.Author.Needs.{needs}
 use native.Mathlib.Omega.{arith}
 use Rattle.twins.proofs.flag_twins.Statement.{statement}

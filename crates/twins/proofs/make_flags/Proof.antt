@@ -2,7 +2,8 @@
 use mathlib.Core.Path.{sym, ap, _∙_}
 use lib.ListN.{length}
 use lib.Seq.{length-take-le}
-use Rattle.twins.proofs.Making.{make-first, make-rest, make-sort-pre, make-r, make-stop, make-flag-pre, make-last, make-rows, length-flagRows}
+use Rattle.twins.proofs.Making.{make-first, make-rest, make-sort-pre, make-r, make-stop, make-flag-pre, make-last, make-rows}
+use Rattle.twins.proofs.Laws.{length-flagRows}
 use native.Mathlib.Omega.{arith}
 use Rattle.twins.proofs.make_flags.Statement.{statement}
 use Rattle.twins.proofs.make_flags.Tie as tie

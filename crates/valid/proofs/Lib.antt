@@ -1,0 +1,9 @@
+mod Negating
+mod Above
+mod Reached
+mod Pointing
+mod Keeping
+mod Stretch
+mod Validity
+mod Rejecting
+pub mod Entry
