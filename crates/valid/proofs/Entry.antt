@@ -12,9 +12,9 @@ use native.Mathlib.Nat.{mul-le-mul-right}
 use native.Mathlib.Omega.{arith}
 use lib.Dec.{eqb}
 use lib.ListN.{length, getD, take, drop, replicate, length-append, length-replicate, replicate-append-replicate}
-use lib.Seq.{length-front, length-take-le, getD-take, take-at, take-append-le, drop-at}
+use lib.Seq.{length-front, length-take-le, getD-take, take-at, drop-at}
 use Rattle.seq.specs.Below.{tabulate}
-use Rattle.seq.specs.Memory.{zeroed, over}
+use Rattle.seq.specs.Memory.{zeroed}
 use Rattle.seq.proofs.Laws.Memory.{zeroed-again, drop-over}
 use Rattle.seq.proofs.Laws.Gather.{length-tabulate, getD-tabulate}
 use Rattle.index.specs.declared.Reply.{Reply}

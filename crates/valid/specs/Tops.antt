@@ -19,7 +19,7 @@ use Rattle.seq.specs.Lists.{someOf, firstOf, EachBelow}
 use Rattle.tree.specs.Tree.{parent, line}
 use Rattle.tree.specs.Rules.{text}
 use Rattle.tree.specs.Plain.{Down}
-use Rattle.index.specs.Index.{nodes, wordList}
+use Rattle.index.specs.Index.{wordList}
 use Rattle.index.specs.Plain.{WordKept}
 use Rattle.answers.specs.Not.{valid}
 

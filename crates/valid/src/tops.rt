@@ -2,7 +2,6 @@
 // Two rows of n entries are lent as one slice: entry v is the first row's, entry n + v the second's.
 ghost use mathlib.Core.Path.{_≡_};
 ghost use Prim.Native.Nat.{_≤_};
-ghost use lib.ListN.{length};
 ghost use Rattle.valid.specs.Tops.{topHere, AbovePre, topAbove, PointPre, Pointed, SeePre, Saw, ListPre, SawList, WordsPre, SawWords, flagHere, SettlePre, Settled, KeepPre, Kept};
 
 // The top of a node: n + 1 if it is a negator or its parent has that, else the node itself if it is marked, else the top of its parent.

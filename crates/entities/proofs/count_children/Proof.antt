@@ -33,41 +33,51 @@ widen-requires c κs = tt
 
 mul-grow : tie.Need-mul-grow Inv-loop μ-loop
 mul-grow c =
-    omega (arith, grow-node _ _ _ _ _ (start (inside c .before) .pre) (inside c .before .loop .inv) (inside c .loop-test .taken) _ (c .widen .ensures), start (inside c .before) .pre .few)
+    let b = inside c in
+    omega (arith, grow-node _ _ _ _ _ (start (b .before) .pre) (b .before .loop .inv) (b .loop-test .taken) _ (c .widen .ensures), start (b .before) .pre .few)
 
 slice-read-grow : tie.Need-slice-read-grow Inv-loop μ-loop
 slice-read-grow c =
-    grow-place _ _ _ _ _ (start (inside (c .before) .before) .pre) (inside (c .before) .before .loop .inv) (inside (c .before) .loop-test .taken) _ (c .before .widen .ensures)
+    let b = inside (c .before) in
+    grow-place _ _ _ _ _ (start (b .before) .pre) (b .before .loop .inv) (b .loop-test .taken) _ (c .before .widen .ensures)
 
 mul-grow-2 : tie.Need-mul-grow-2 Inv-loop μ-loop
-mul-grow-2 c = omega (arith, inside (c .before) .loop-test .taken, start (inside (c .before) .before) .pre .few)
+mul-grow-2 c =
+    let b = inside (c .before) in
+    omega (arith, b .loop-test .taken, start (b .before) .pre .few)
 
 shared-slice-read-grow : tie.Need-shared-slice-read-grow Inv-loop μ-loop
 shared-slice-read-grow c =
-    grow-tag _ _ _ _ _ (start (inside (c .before .before) .before) .pre) (inside (c .before .before) .before .loop .inv) (inside (c .before .before) .loop-test .taken)
+    let b = inside (c .before .before) in
+    grow-tag _ _ _ _ _ (start (b .before) .pre) (b .before .loop .inv) (b .loop-test .taken)
 
 grow-requires : tie.Need-grow-requires Inv-loop μ-loop
 grow-requires c κs =
-    grow-few _ _ _ _ _ (start (inside (c .before .before) .before) .pre) (inside (c .before .before) .before .loop .inv) (inside (c .before .before) .loop-test .taken) _ (c .before .before .widen .ensures)
+    let b = inside (c .before .before) in
+    grow-few _ _ _ _ _ (start (b .before) .pre) (b .before .loop .inv) (b .loop-test .taken) _ (c .before .before .widen .ensures)
 
 mul-row : tie.Need-mul-row Inv-loop μ-loop
 mul-row c =
-    omega (arith, grow-node _ _ _ _ _ (start (inside (c .before .before .before) .before) .pre) (inside (c .before .before .before) .before .loop .inv) (inside (c .before .before .before) .loop-test .taken) _ (c .before .before .before .widen .ensures), start (inside (c .before .before .before) .before) .pre .few)
+    let b = inside (c .before .before .before) in
+    omega (arith, grow-node _ _ _ _ _ (start (b .before) .pre) (b .before .loop .inv) (b .loop-test .taken) _ (c .before .before .before .widen .ensures), start (b .before) .pre .few)
 
 slice-write-row : tie.Need-slice-write-row Inv-loop μ-loop
 slice-write-row c =
-    grow-place _ _ _ _ _ (start (inside (c .before .before .before) .before) .pre) (inside (c .before .before .before) .before .loop .inv) (inside (c .before .before .before) .loop-test .taken) _ (c .before .before .before .widen .ensures)
+    let b = inside (c .before .before .before) in
+    grow-place _ _ _ _ _ (start (b .before) .pre) (b .before .loop .inv) (b .loop-test .taken) _ (c .before .before .before .widen .ensures)
 
 add-c : tie.Need-add-c Inv-loop μ-loop
 add-c c =
-    omega (arith, inside (c .before .before .before) .loop-test .taken, start (inside (c .before .before .before) .before) .pre .few)
+    let b = inside (c .before .before .before) in
+    omega (arith, b .loop-test .taken, start (b .before) .pre .few)
 
 loop-less : tie.Need-loop-less Inv-loop μ-loop
 loop-less c = omega (arith, inside (c .before .before .before) .loop-test .taken)
 
 loop-again : tie.Need-loop-again Inv-loop μ-loop
 loop-again c =
-    growing-step _ _ _ _ _ (start (inside (c .before .before .before) .before) .pre) (inside (c .before .before .before) .before .loop .inv) (inside (c .before .before .before) .loop-test .taken) _ (c .before .before .before .widen .ensures) _ (c .grow .ensures)
+    let b = inside (c .before .before .before) in
+    growing-step _ _ _ _ _ (start (b .before) .pre) (b .before .loop .inv) (b .loop-test .taken) _ (c .before .before .before .widen .ensures) _ (c .grow .ensures)
 
 same-length : tie.Need-same-length Inv-loop μ-loop
 same-length c = c .before .loop .inv .row .long ∙ sym (c .before .before .before .before .before .pre .row .long)

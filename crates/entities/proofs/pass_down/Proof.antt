@@ -45,19 +45,23 @@ is-entity-requires c κs = tt
 
 cast-row : tie.Need-cast-row Inv-loop μ-loop
 cast-row c =
-    omega (arith, inside (c .before) .loop-test .taken, start (inside (c .before) .before) .pre .few)
+    let b = inside (c .before) in
+    omega (arith, b .loop-test .taken, start (b .before) .pre .few)
 
 mul-row : tie.Need-mul-row Inv-loop μ-loop
 mul-row c =
-    omega (arith, inside (c .before) .loop-test .taken, start (inside (c .before) .before) .pre .few)
+    let b = inside (c .before) in
+    omega (arith, b .loop-test .taken, start (b .before) .pre .few)
 
 slice-write-row-2 : tie.Need-slice-write-row-2 Inv-loop μ-loop
 slice-write-row-2 c =
-    pass-place _ _ _ (start (inside (c .before) .before) .pre) _ _ (inside (c .before) .before .loop .inv) (inside (c .before) .loop-test .taken)
+    let b = inside (c .before) in
+    pass-place _ _ _ (start (b .before) .pre) _ _ (b .before .loop .inv) (b .loop-test .taken)
 
 mul-widen : tie.Need-mul-widen Inv-loop μ-loop
 mul-widen c =
-    omega (arith, inside (c .before) .loop-test .taken, start (inside (c .before) .before) .pre .few)
+    let b = inside (c .before) in
+    omega (arith, b .loop-test .taken, start (b .before) .pre .few)
 
 shared-slice-read-widen : tie.Need-shared-slice-read-widen Inv-loop μ-loop
 shared-slice-read-widen c = inside (c .before .before) .loop-test .taken
@@ -67,31 +71,37 @@ widen-requires c κs = tt
 
 mul-row-2 : tie.Need-mul-row-2 Inv-loop μ-loop
 mul-row-2 c =
-    omega (arith, pass-up _ _ _ (start (inside (c .before .before .before) .before) .pre) _ _ (inside (c .before .before .before) .before .loop .inv) (inside (c .before .before .before) .loop-test .taken) _ (c .widen .ensures), inside (c .before .before .before) .before .loop .inv .long, start (inside (c .before .before .before) .before) .pre .few)
+    let b = inside (c .before .before .before) in
+    omega (arith, pass-up _ _ _ (start (b .before) .pre) _ _ (b .before .loop .inv) (b .loop-test .taken) _ (c .widen .ensures), b .before .loop .inv .long, start (b .before) .pre .few)
 
 slice-read-row : tie.Need-slice-read-row Inv-loop μ-loop
 slice-read-row c =
-    pass-up _ _ _ (start (inside (c .before .before .before .before) .before) .pre) _ _ (inside (c .before .before .before .before) .before .loop .inv) (inside (c .before .before .before .before) .loop-test .taken) _ (c .before .widen .ensures)
+    let b = inside (c .before .before .before .before) in
+    pass-up _ _ _ (start (b .before) .pre) _ _ (b .before .loop .inv) (b .loop-test .taken) _ (c .before .widen .ensures)
 
 mul-row-3 : tie.Need-mul-row-3 Inv-loop μ-loop
 mul-row-3 c =
-    omega (arith, inside (c .before .before .before .before) .loop-test .taken, start (inside (c .before .before .before .before) .before) .pre .few)
+    let b = inside (c .before .before .before .before) in
+    omega (arith, b .loop-test .taken, start (b .before) .pre .few)
 
 slice-write-row-3 : tie.Need-slice-write-row-3 Inv-loop μ-loop
 slice-write-row-3 c =
-    pass-place _ _ _ (start (inside (c .before .before .before .before) .before) .pre) _ _ (inside (c .before .before .before .before) .before .loop .inv) (inside (c .before .before .before .before) .loop-test .taken)
+    let b = inside (c .before .before .before .before) in
+    pass-place _ _ _ (start (b .before) .pre) _ _ (b .before .loop .inv) (b .loop-test .taken)
 
 add-v : tie.Need-add-v Inv-loop μ-loop
 add-v c =
-    omega (arith, inside (c .before) .loop-test .taken, start (inside (c .before) .before) .pre .few)
+    let b = inside (c .before) in
+    omega (arith, b .loop-test .taken, start (b .before) .pre .few)
 
 loop-less : tie.Need-loop-less Inv-loop μ-loop
 loop-less c = omega (arith, inside (c .before) .loop-test .taken)
 
 loop-again : tie.Need-loop-again Inv-loop μ-loop
 loop-again c =
-    ⊎-elim (λ w. rw (w .1) (passing-entity _ _ _ (start (inside (c .before) .before) .pre) _ _ (inside (c .before) .before .loop .inv) (inside (c .before) .loop-test .taken) _ (c .before .is-entity .ensures) (w .0 .taken)))
-    (λ w. rw (w .4) (passing-other _ _ _ (start (inside (c .before) .before) .pre) _ _ (inside (c .before) .before .loop .inv) (inside (c .before) .loop-test .taken) _ (w .2 .ensures) _ (c .before .is-entity .ensures) (w .0 .left))) (c .if1 .came)
+    let b = inside (c .before) in
+    ⊎-elim (λ w. rw (w .1) (passing-entity _ _ _ (start (b .before) .pre) _ _ (b .before .loop .inv) (b .loop-test .taken) _ (c .before .is-entity .ensures) (w .0 .taken)))
+    (λ w. rw (w .4) (passing-other _ _ _ (start (b .before) .pre) _ _ (b .before .loop .inv) (b .loop-test .taken) _ (w .2 .ensures) _ (c .before .is-entity .ensures) (w .0 .left))) (c .if1 .came)
 
 same-length : tie.Need-same-length Inv-loop μ-loop
 same-length c = c .before .loop .inv .long ∙ sym (start (c .before) .pre .row .long)

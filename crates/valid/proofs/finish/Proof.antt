@@ -1,7 +1,6 @@
 -- `valid::finish` meets its contract: the flags are listed, then cleared.
 use mathlib.Core.Path.{sym, ap, _∙_}
-use mathlib.Core.List.{_++_}
-use lib.ListN.{length, drop, replicate}
+use lib.ListN.{length}
 use lib.Seq.{length-take-le}
 use Rattle.seq.proofs.Laws.Memory.{length-zeroed}
 use Rattle.listing.proofs.Laws.{listed-length}

@@ -63,13 +63,17 @@ cast-row : tie.Need-cast-row Inv-loop μ-loop
 cast-row c = omega (arith, start (inside (c .before .before .before .before) .before) .pre .few)
 
 mul-row : tie.Need-mul-row Inv-loop μ-loop
-mul-row c = omega (arith, target c, inside (c .before .before .before .before) .before .loop .inv .long, start (inside (c .before .before .before .before) .before) .pre .few)
+mul-row c =
+    let b = inside (c .before .before .before .before) in
+    omega (arith, target c, b .before .loop .inv .long, start (b .before) .pre .few)
 
 slice-write-row : tie.Need-slice-write-row Inv-loop μ-loop
 slice-write-row c = target c
 
 add-i : tie.Need-add-i Inv-loop μ-loop
-add-i c = omega (arith, inside (c .before .before) .loop-test .taken, start (inside (c .before .before) .before) .good)
+add-i c =
+    let b = inside (c .before .before) in
+    omega (arith, b .loop-test .taken, start (b .before) .good)
 
 loop-less : tie.Need-loop-less Inv-loop μ-loop
 loop-less c = omega (arith, inside (c .before .before) .loop-test .taken)

@@ -28,19 +28,29 @@ mul-top-here : tie.Need-mul-top-here Inv-loop μ-loop
 mul-top-here c = omega (arith, c .before .before .loop-test .taken, start (c .before .before .before) .pre .few)
 
 slice-read-top-here : tie.Need-slice-read-top-here Inv-loop μ-loop
-slice-read-top-here c = point-place _ _ (start (inside c .before) .pre) _ _ (inside c .before .loop .inv) (inside c .loop-test .taken)
+slice-read-top-here c =
+    let b = inside c in
+    point-place _ _ (start (b .before) .pre) _ _ (b .before .loop .inv) (b .loop-test .taken)
 
 add-top-here : tie.Need-add-top-here Inv-loop μ-loop
-add-top-here c = omega (arith, inside c .loop-test .taken, start (inside c .before) .pre .few)
+add-top-here c =
+    let b = inside c in
+    omega (arith, b .loop-test .taken, start (b .before) .pre .few)
 
 mul-top-here-2 : tie.Need-mul-top-here-2 Inv-loop μ-loop
-mul-top-here-2 c = omega (arith, inside c .loop-test .taken, start (inside c .before) .pre .few)
+mul-top-here-2 c =
+    let b = inside c in
+    omega (arith, b .loop-test .taken, start (b .before) .pre .few)
 
 slice-read-top-here-2 : tie.Need-slice-read-top-here-2 Inv-loop μ-loop
-slice-read-top-here-2 c = point-behind _ _ (start (inside (c .before) .before) .pre) _ _ (inside (c .before) .before .loop .inv) (inside (c .before) .loop-test .taken)
+slice-read-top-here-2 c =
+    let b = inside (c .before) in
+    point-behind _ _ (start (b .before) .pre) _ _ (b .before .loop .inv) (b .loop-test .taken)
 
 cast-top-here : tie.Need-cast-top-here Inv-loop μ-loop
-cast-top-here c = omega (arith, inside (c .before) .loop-test .taken, start (inside (c .before) .before) .pre .few)
+cast-top-here c =
+    let b = inside (c .before) in
+    omega (arith, b .loop-test .taken, start (b .before) .pre .few)
 
 cast-top-here-2 : tie.Need-cast-top-here-2 Inv-loop μ-loop
 cast-top-here-2 c = omega (arith, start (inside (c .before) .before) .pre .few)
@@ -55,7 +65,9 @@ slice-write-rows : tie.Need-slice-write-rows Inv-loop μ-loop
 slice-write-rows c = slice-read-top-here (c .before .before)
 
 add-v : tie.Need-add-v Inv-loop μ-loop
-add-v c = omega (arith, inside (c .before .before) .loop-test .taken, start (inside (c .before .before) .before) .pre .few)
+add-v c =
+    let b = inside (c .before .before) in
+    omega (arith, b .loop-test .taken, start (b .before) .pre .few)
 
 loop-less : tie.Need-loop-less Inv-loop μ-loop
 loop-less c = omega (arith, inside (c .before .before) .loop-test .taken)

@@ -31,10 +31,14 @@ widen-requires : tie.Need-widen-requires Inv-loop μ-loop
 widen-requires c κs = tt
 
 part-see-list-start : tie.Need-part-see-list-start Inv-loop μ-loop
-part-see-list-start c = words-rise _ _ _ _ _ (start (inside c .before) .pre) _ _ _ (inside c .before .loop .inv) (inside c .loop-test .taken) _ (c .widen .ensures)
+part-see-list-start c =
+    let b = inside c in
+    words-rise _ _ _ _ _ (start (b .before) .pre) _ _ _ (b .before .loop .inv) (b .loop-test .taken) _ (c .widen .ensures)
 
 part-see-list-end : tie.Need-part-see-list-end Inv-loop μ-loop
-part-see-list-end c = words-within _ _ _ _ _ (start (inside c .before) .pre) _ _ _ (inside c .before .loop .inv) (inside c .loop-test .taken) _ (c .widen .ensures)
+part-see-list-end c =
+    let b = inside c in
+    words-within _ _ _ _ _ (start (b .before) .pre) _ _ _ (b .before .loop .inv) (b .loop-test .taken) _ (c .widen .ensures)
 
 mul-see-list : tie.Need-mul-see-list Inv-loop μ-loop
 mul-see-list c = omega (arith, part-see-list-start c, part-see-list-end c, start (inside c .before) .good)
@@ -43,7 +47,9 @@ sub-see-list : tie.Need-sub-see-list Inv-loop μ-loop
 sub-see-list c = part-see-list-start c
 
 cast-see-list : tie.Need-cast-see-list Inv-loop μ-loop
-cast-see-list c = omega (arith, inside (c .before) .loop-test .taken, start (inside (c .before) .before) .pre .fewWords)
+cast-see-list c =
+    let b = inside (c .before) in
+    omega (arith, b .loop-test .taken, start (b .before) .pre .fewWords)
 
 see-list-requires : tie.Need-see-list-requires Inv-loop μ-loop
 see-list-requires c κs =
@@ -51,7 +57,9 @@ see-list-requires c κs =
     words-list-pre _ _ _ _ _ (start (b .before) .pre) _ _ _ (b .before .loop .inv) (b .loop-test .taken) _ (c .before .before .widen .ensures)
 
 add-j : tie.Need-add-j Inv-loop μ-loop
-add-j c = omega (arith, inside (c .before .before .before .before .before) .loop-test .taken, start (inside (c .before .before .before .before .before) .before) .pre .fewWords)
+add-j c =
+    let b = inside (c .before .before .before .before .before) in
+    omega (arith, b .loop-test .taken, start (b .before) .pre .fewWords)
 
 loop-less : tie.Need-loop-less Inv-loop μ-loop
 loop-less c = omega (arith, inside (c .before .before .before .before .before) .loop-test .taken)
