@@ -4,7 +4,7 @@ kit=$(cd "$(dirname "$(rt doc)")/.." && pwd)
 tools=$kit/on/$(uname -m)/toolchain
 link=$kit/on/$(uname -m)/bin/rattle-link
 
-# build PROGRAM FILE.c...: with the kit's clang, over the library
+# build PROGRAM FILE.c...: with the kit's clang, over the library of `make lib`
 build() {
     local program=$1 objects=() file object
     shift
@@ -14,7 +14,7 @@ build() {
         "$tools/bin/clang" --target=x86_64-unknown-linux-gnu -std=c11 -O3 -Wall -Wextra -Werror -fPIC -nostdinc -isystem host/x86-64 -Iinclude -c "$file" -o "$object"
         objects+=("$object")
     done
-    "$link" --target x86_64-unknown-linux-gnu --toolchain "$tools" -o "$program" "${objects[@]}" target/staticlib/libsonquilate.a 2>"$program.linked" ||
+    "$link" --target x86_64-unknown-linux-gnu --toolchain "$tools" -o "$program" "${objects[@]}" target/lib/libsonquilate.a 2>"$program.linked" ||
         { cat "$program.linked" >&2; return 1; }
 }
 

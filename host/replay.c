@@ -1,7 +1,7 @@
 /* Replays the cases of a case file (second/README.md says its layout) through include/sonquilate.h, from standard input. For
  * each case one line: its number, the search, the reply, and the final work, out and own, each as its length and a hash.
  * Every slice stands between fences of its own, and what is lent to be read is hashed before and after: a write to
- * anything but work, out and own, or past their ends, stops the run with status 3. Cases of valid SLCA are passed over. */
+ * anything but work, out and own, or past their ends, stops the run with status 3. */
 #include "sonquilate.h"
 
 #include <stdio.h>
@@ -71,6 +71,8 @@ static sq_reply call(uint32_t search, uint32_t p, uint32_t q, const slice *s) {
         return sq_elca(INDEX, LENT(s[OUT]), LENT(s[OWN]));
     case SLCA:
         return sq_slca(INDEX, LENT(s[OUT]));
+    case VALID:
+        return sq_valid(INDEX, LENT(s[OUT]));
     default:
         return sq_check(INDEX);
     }
@@ -105,8 +107,7 @@ static int replay(unsigned long index) {
         stop(1, "no case file", index);
     for (int i = 0; i < SLICES; i++)
         s[i] = lend(head[4 + i], index);
-    if (head[1] != VALID)
-        try(index, head[1], head[2], head[3], s);
+    try(index, head[1], head[2], head[3], s);
     for (int i = 0; i < SLICES; i++)
         take_back(s[i], index);
     return 1;

@@ -106,7 +106,10 @@ fn print_case(file: &str, number: u64) -> io::Result<()> {
         }
         index += 1;
     }
-    Err(io::Error::other(format!("the file has {index} cases only")))
+    Err(io::Error::new(
+        io::ErrorKind::Other,
+        format!("the file has {index} cases only"),
+    ))
 }
 
 fn run(words: &[&str]) -> Result<(), Trouble> {

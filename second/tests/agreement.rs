@@ -186,6 +186,32 @@ fn small_cases_are_worth_running() {
         .all(|kind| kinds.contains_key(&format!("{kind:?}"))));
 }
 
+#[test]
+fn every_damage_meets_the_search_with_not() {
+    // With no negative word, and with some.
+    let mut met = [vec![], vec![]];
+    for number in 0..20_000 {
+        let (call, damage) = small(11, number);
+        if call.search == Search::Valid {
+            met[usize::from(call.q > 0)].extend(damage);
+        }
+    }
+    for &kind in Damage::ALL {
+        // A negative word is damage only where none may be; a ninth word, and
+        // what makes q huge or wrapped, leave q above 0.
+        let never = [
+            kind == Damage::NegativeWord || matches!(kind, Damage::KNine | Damage::QHuge | Damage::Wrapped),
+            kind == Damage::NegativeWord || matches!(kind, Damage::PNine),
+        ];
+        for with_not in [0, 1] {
+            assert!(
+                never[with_not] || met[with_not].contains(&kind),
+                "{kind:?} is not met, {with_not}"
+            );
+        }
+    }
+}
+
 /// The refusals that one damage may give; none named where it may give any.
 fn expected_refusals(kind: Damage) -> Vec<u32> {
     use Damage::*;

@@ -215,8 +215,48 @@ fn has_twin(index: &Index, v: usize) -> bool {
             .any(|&c| c != v && index.tags[c] == index.tags[v])
 }
 
+/// Valid SLCA where only the bits of the mask tell tags apart.
+fn valid_by_bits(index: &Index, mask: u32) -> Answer {
+    let masked = |&tag: &u32| if tag == 0 { 0 } else { 1 << 31 | tag & mask };
+    let tags: Vec<u32> = index.tags.iter().map(masked).collect();
+    let words = index.words.clone();
+    let tags = &tags;
+    (
+        valid(&Index {
+            words,
+            tags,
+            ..*index
+        }),
+        vec![],
+    )
+}
+
 fn valid_slips() -> Vec<SearchSlip> {
     vec![
+        ("only the low 11 bits of tags", |index| {
+            valid_by_bits(index, 0x7FF)
+        }),
+        ("only the low 22 bits of tags", |index| {
+            valid_by_bits(index, 0x3F_FFFF)
+        }),
+        ("all but the low 11 bits of tags", |index| {
+            valid_by_bits(index, !0x7FF)
+        }),
+        ("twins only side by side", |index| {
+            let classes = classes(index.parents, index.tags);
+            let beside = |v: usize| {
+                let all = children(index, index.parents[v] as usize);
+                all.windows(2)
+                    .any(|pair| pair.contains(&v) && index.tags[pair[0]] == index.tags[pair[1]])
+            };
+            let marks = negators_by(index, text(index), |u| {
+                climb(index.parents, u)
+                    .skip(1)
+                    .find(|&v| classes[v] == Class::Entity && beside(v))
+                    .or(Some(0))
+            });
+            valid_with(index, &marks, has_valid)
+        }),
         ("NOT ignored", |index| (slca(index), vec![])),
         ("invalid occurrences deleted first", |index| {
             let is_negator = negators(index);

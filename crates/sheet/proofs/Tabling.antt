@@ -34,7 +34,7 @@ table-long s c h = record {
 
 -- ---- a text that is not too long, by its header
 module _ (s c : List ℕ) (h : length s ≤ 16384) where
-  read-lines : readOf s ≡ readLines (lines s)
+  pub read-lines : readOf s ≡ readLines (lines s)
   unfolding readOf
   read-lines = rw (le-ltb 16384 (length s) h)
 

@@ -1,2 +1,4 @@
 pub mod Table
 pub mod Contracts
+pub mod Plain
+pub mod Printed

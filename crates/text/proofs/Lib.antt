@@ -2,3 +2,4 @@ pub mod Laws
 pub mod Meaning
 mod Scanning
 mod Writing
+pub mod Written

@@ -218,6 +218,17 @@ pub length-decimal : (d n : ℕ) → 1 ≤ d → n < 10 ^ d → length (decimal 
 unfolding decimal
 length-decimal d n l h = ⊎-elim (λ q. rw q l) (λ q. rw q (length-digits 10 d n h)) (bool-cases (eqb n 0))
 
+digits-most : (f n : ℕ) → length (digitsIn f n) ≤ f
+unfolding digitsIn
+digits-most zero n = zero-le
+digits-most (suc f) n =
+    ⊎-elim (λ q. rw q zero-le) (λ q. rw q (omega (arith, length-append (digitsIn f (n / 10)) ((48 + n % 10) ∷ []), digits-most f (n / 10)))) (bool-cases (eqb n 0))
+
+-- No number is written with more than ten digits.
+pub decimal-most : (n : ℕ) → length (decimal n) ≤ 10
+unfolding decimal
+decimal-most n = ⊎-elim (λ q. rw q (omega arith)) (λ q. rw q (digits-most 10 n)) (bool-cases (eqb n 0))
+
 every-last : (s : List ℕ) (x : ℕ) → everyOf digit s ≡ true → digit x ≡ true → everyOf digit (s ++ (x ∷ [])) ≡ true
 unfolding everyOf
 every-last [] x e h = and-both (digit x) true h refl

@@ -1,4 +1,4 @@
-//! Some forty large cases, a fixed set up to the seed's random content.
+//! Fifty large cases, a fixed set up to the seed's random content.
 
 use super::damage::{damage, Damage};
 use super::lend::{lend, Plan, Room};
@@ -41,6 +41,7 @@ fn rows() -> Vec<Row> {
     };
     let one_tag = (Flat, Few(1));
     let all_tags = (Flat, Distinct);
+    let high_tags = (Flat, Spread);
     let chains = (Chains, Few(2));
     let random = (Random, Few(3));
     let deep = (Deep, Few(3));
@@ -74,9 +75,13 @@ fn rows() -> Vec<Row> {
         row(65_536, one_tag, Valid, (1, 1), SPARSE, Exact, None),
         row(65_536, all_tags, Elca, (2, 0), DENSE, More, None),
         row(65_536, all_tags, Valid, (1, 1), DENSE, Exact, None),
+        row(65_536, one_tag, Valid, (2, 1), SPARSE, More, None),
+        row(65_536, high_tags, Valid, (1, 1), SPARSE, Exact, None),
         row(65_536, chains, Elca, (8, 0), DENSE, Exact, None),
         row(65_536, chains, Valid, (1, 1), SPARSE, Exact, None),
+        row(65_536, chains, Valid, (2, 1), DENSE, More, None),
         row(65_536, chains, Elca, (2, 0), DENSE, Exact, Some(Level65)),
+        row(65_536, chains, Valid, (1, 1), SPARSE, Exact, Some(Level65)),
         row(65_536, random, Elca, (4, 0), DENSE, Exact, None),
         row(65_536, random, Elca, (2, 0), DENSE, OwnShort, None),
         row(65_536, random, Valid, (2, 2), SPARSE, More, None),

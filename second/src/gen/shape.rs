@@ -24,6 +24,8 @@ pub enum Tags {
     /// So many different tags.
     Few(usize),
     Distinct,
+    /// Distinct, and different in high bits too.
+    Spread,
 }
 
 pub struct Tree {
@@ -85,6 +87,7 @@ fn tags(rng: &mut Rng, parents: &[u32], tags: Tags, texts_percent: usize) -> Vec
             match tags {
                 Tags::Few(how_many) => rng.range(1, how_many) as u32,
                 Tags::Distinct => v as u32 + 1,
+                Tags::Spread => (v as u32 + 1).rotate_left(16),
             }
         })
         .collect()
@@ -156,5 +159,13 @@ pub fn tree(rng: &mut Rng, n: usize, shape: Shape, how: Tags, texts_percent: usi
 pub fn large_tags(tags: &mut [u32]) {
     for tag in tags.iter_mut().filter(|tag| **tag != 0) {
         *tag = u32::MAX - (*tag - 1);
+    }
+}
+
+/// Turns the bits of the tags: what told small tags apart stands in higher
+/// bits, and low bits are alike. Text stays text, and twins stay twins.
+pub fn turn_tags(tags: &mut [u32], by: u32) {
+    for tag in tags.iter_mut() {
+        *tag = tag.rotate_left(by);
     }
 }

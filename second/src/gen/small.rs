@@ -3,7 +3,7 @@
 use super::damage::{damage, Damage};
 use super::lend::{lend, Plan, Room};
 use super::rng::Rng;
-use super::shape::{large_tags, tree, Shape, Tags, Tree};
+use super::shape::{large_tags, tree, turn_tags, Shape, Tags, Tree};
 use super::words::{list, nearly, Kind};
 use crate::call::{Call, Search};
 use crate::tree::climb;
@@ -37,11 +37,7 @@ fn small_tree(rng: &mut Rng, tall: bool) -> Tree {
         (15, Tags::Distinct),
     ]);
     let texts = rng.pick(&[0, 30, 60, 60, 90, 100]);
-    let mut tree = tree(rng, n, shape, how, texts);
-    if rng.percent(10) {
-        large_tags(&mut tree.tags);
-    }
-    tree
+    tree(rng, n, shape, how, texts)
 }
 
 const POSITIVE: &[(usize, Kind)] = &[
@@ -139,7 +135,7 @@ fn how_many_words(rng: &mut Rng, search: Search) -> (usize, usize) {
 /// A lawful tree and lawful lists for the search.
 pub fn plan(rng: &mut Rng, search: Search, tall: bool) -> Plan {
     let (p, q) = how_many_words(rng, search);
-    let (tree, words) = match rng.range(0, 99) {
+    let (mut tree, words) = match rng.range(0, 99) {
         0..=44 if q > 0 && !tall => lively(rng, p, q),
         45..=52 if q > 0 && !tall => rooted(rng, p, q),
         _ => {
@@ -148,6 +144,12 @@ pub fn plan(rng: &mut Rng, search: Search, tall: bool) -> Plan {
             (tree, words)
         }
     };
+    match rng.range(0, 99) {
+        0..=9 => large_tags(&mut tree.tags),
+        10..=24 => turn_tags(&mut tree.tags, 11),
+        25..=39 => turn_tags(&mut tree.tags, 22),
+        _ => (),
+    }
     Plan {
         search,
         tree,

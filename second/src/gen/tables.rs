@@ -86,12 +86,10 @@ fn lawful_call(rng: &mut Rng) -> Call {
         let tall = rng.percent(2);
         let mut plan = plan(rng, Search::Valid, tall);
         for tag in &mut plan.tree.tags {
-            // Tags too large for a field become large ones that fit.
-            *tag = if *tag > 99_999 {
-                99_999 - (u32::MAX - *tag)
-            } else {
-                *tag
-            };
+            // Tags too large for a field become others that fit.
+            if *tag > 99_999 {
+                *tag = 1 + *tag % 99_999;
+            }
         }
         if plan.tree.parents.len() <= NODES {
             return lend(rng, &plan, Room::Exact);

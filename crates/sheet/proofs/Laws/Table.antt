@@ -33,13 +33,7 @@ length-times (suc m) s = omega (arith, length-append s (times m s), length-times
 
 pub length-header : (p q : ℕ) → length (headerText p q) ≡ 10 + 4 * (p + q)
 unfolding headerText bytes
-length-header p q =
-    omega (
-      arith,
-      length-append (times p (bytes ",+,#")) (times q (bytes ",-,#")),
-      length-times p (bytes ",+,#"),
-      length-times q (bytes ",-,#"),
-    )
+length-header p q = simp (length-append, length-times) (omega arith)
 
 -- How many words there may be.
 module _ (p q : ℕ) where

@@ -1,0 +1,26 @@
+# make lib      the library for C, in target/lib: libsonquilate.a, sonquilate.h, and sonquilate.pc for pkg-config
+# make example  examples/search.c, built over it and run
+# The library is for x86-64. There the system's cc links it; on Arm the kit's clang does, and the kit's emulator runs the program.
+SHELL := bash
+.PHONY: lib example
+
+lib: target/lib/libsonquilate.a target/lib/sonquilate.h target/lib/sonquilate.pc
+
+target/lib/libsonquilate.a: crates.txt $(shell find crates)
+	rt staticlib sonquilate
+	mkdir -p target/lib
+	cp target/staticlib/libsonquilate.a $@
+
+target/lib/%: include/%
+	mkdir -p target/lib
+	cp $< $@
+
+example: lib
+	mkdir -p target/example
+ifeq ($(shell uname -m),x86_64)
+	host/need cc pkg-config
+	cc -o target/example/search examples/search.c $$(PKG_CONFIG_PATH=target/lib pkg-config --cflags --libs sonquilate)
+	target/example/search
+else
+	. host/kit.sh && build target/example/search examples/search.c && run target/example/search
+endif

@@ -1,0 +1,4 @@
+pub mod Laws
+mod Lending
+mod Answering
+mod Tabled

@@ -1,0 +1,1 @@
+// The table program: definitions and theorems alone.
