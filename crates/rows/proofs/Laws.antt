@@ -1,4 +1,3 @@
 -- The laws of this crate's definitions, and of lists.
 pub mod Lists
-pub mod Lent
 pub mod Output

@@ -37,7 +37,8 @@ module _ (t : ℕ → List ℕ) (w i n : ℕ) (o : List ℕ) (a : ℕ) (out : Li
     pub along-wide : w ≤ length cs
     along-wide = omega (arith, pre .full, row-le v n w l)
 
-  pub along-step : (piece out′ : List ℕ) (at′ : ℕ) → v < n → t (v + 1) ≡ t v ++ piece → length out′ ≡ length out → Adds piece out at out′ at′ → Along t w i n o a out′ at′ («from» + w) (v + 1)
+  pub along-step : (piece out′ : List ℕ) (at′ : ℕ) → v < n → t (v + 1) ≡ t v ++ piece → length out′ ≡ length out → Adds piece out at out′ at′ →
+      Along t w i n o a out′ at′ («from» + w) (v + 1)
   along-step piece out′ at′ l e k h = record {
     adding = adding-step t n o a out at v (s .adding) piece out′ at′ l e k h;
     place = omega (arith, s .place, row-next v w);

@@ -6,25 +6,23 @@
 use Prim.Native.Nat.{ℕ, zero, suc, _+_, _*_, _≤_, _<_}
 use mathlib.Core.Path.{_≡_, refl, sym, ap, ap₂, _∙_}
 use mathlib.Core.List.{List, [], _∷_, _++_, map}
-use mathlib.Core.Bool.{Bool, true}
+use mathlib.Core.Bool.{true}
 use native.Mathlib.Nat.{not-suc-le-zero, le-of-suc-le-suc, zero-mul, suc-mul}
 use native.Mathlib.Omega.{arith}
-use borrow.Author.Tests.{le-leb, leb-true, lt-ltb, ne-eqb}
-use lib.Dec.{leb, ltb}
+use borrow.Author.Tests.{lt-ltb}
+use lib.Dec.{ltb}
 use lib.ListN.{length, getD, length-map, List·getD-append}
 use lib.Seq.{getD-append-add}
 use Rattle.seq.specs.Lists.{everyOf}
-use Rattle.seq.proofs.Laws.Bools.{and-left, and-right, and-both, and-false-left}
-use Rattle.seq.proofs.Laws.Lists.{everyOf-at}
-use Rattle.text.specs.Text.{bytes, CR, comma, lines, fields, digit, numeral, value, decimal}
-use Rattle.text.specs.Plain.{joinedBy, NoComma, NoEnd}
-use Rattle.text.proofs.Laws.Text.{ended-at, digit-at, numeral-at}
-use Rattle.text.proofs.Meaning.{value-decimal, numeral-decimal}
-use Rattle.text.proofs.Written.{fields-joined, lines-written}
+use Rattle.seq.proofs.Laws.Bools.{and-both}
+use Rattle.text.specs.Text.{bytes, lines, fields, numeral, value, decimal}
+use Rattle.text.specs.Plain.{NoComma, NoEnd}
+use Rattle.text.proofs.Meaning.{value-decimal, decimal-digits, numeral-decimal}
+use Rattle.text.proofs.Written.{fields-joined, digits-free, high, high-append, high-free, high-digits, high-joined, lines-written}
 use Rattle.sheet.specs.declared.Read.the-variants.{Taken}
 use Rattle.sheet.specs.Table.{Table, times, headerText, wordsOf, width, occurrence, rowOk, lineOk, rowOf, cellsOf, tableOf}
 use Rattle.sheet.specs.Contracts.{shapeOf, readOf}
-use Rattle.sheet.specs.Plain.{Row, Keeps, Lawful}
+use Rattle.sheet.specs.Plain.{Row, Keeps}
 use Rattle.sheet.specs.Printed.{rowText, tableText, allRows, inRow, Printable}
 use Rattle.sheet.proofs.Meaning.{header-positives, header-negatives, header-of, row-of, input-none}
 
@@ -33,71 +31,39 @@ map-at f [] i d e h = absurd (not-suc-le-zero h)
 map-at f (x ∷ l) zero d e h = refl
 map-at f (x ∷ l) (suc i) d e h = map-at f l i d e (le-of-suc-le-suc h)
 
--- ---- texts in which no byte is CR
-high : List ℕ → Bool
-high l = everyOf (leb 14) l
-
-high-append : (a b : List ℕ) → high a ≡ true → high b ≡ true → high (a ++ b) ≡ true
-unfolding high everyOf
-high-append [] b e h = h
-high-append (x ∷ a) b e h = and-both (leb 14 x) _ (and-left (leb 14 x) (high a) e) (high-append a b (and-right (leb 14 x) (high a) e) h)
-
-high-free : (l : List ℕ) → high l ≡ true → NoEnd l
-unfolding high
-high-free l e i h =
-    ended-at l i ∙ and-false-left _ _ (ne-eqb (getD l i 0) CR (λ (q : getD l i 0 ≡ CR). omega (arith, leb-true 14 (getD l i 0) (everyOf-at (leb 14) l 0 e i h))))
-
-high-digits : (f : List ℕ) → everyOf digit f ≡ true → high f ≡ true
-unfolding high everyOf
-high-digits [] e = refl
-high-digits (x ∷ f) e =
-    and-both (leb 14 x) _ (le-leb 14 x (omega (arith, digit-at x (and-left (digit x) (everyOf digit f) e) .low)))
-    (high-digits f (and-right (digit x) (everyOf digit f) e))
-
-high-joined : (fs : List (List ℕ)) → ((i : ℕ) → i < length fs → high (getD fs i []) ≡ true) → high (joinedBy (comma ∷ []) fs) ≡ true
-unfolding high everyOf joinedBy
-high-joined [] h = refl
-high-joined (f ∷ []) h = h 0 (omega arith)
-high-joined (f ∷ g ∷ fs) h =
-    high-append f (comma ∷ joinedBy (comma ∷ []) (g ∷ fs)) (h 0 (omega arith)) (high-joined (g ∷ fs) (λ i l. h (suc i) (omega arith)))
-
+-- ---- the header has no CR
 high-times : (m : ℕ) (s : List ℕ) → high s ≡ true → high (times m s) ≡ true
-unfolding times high everyOf
+unfolding times everyOf
 high-times zero s h = refl
 high-times (suc m) s h = high-append s (times m s) h (high-times m s h)
 
 high-header : (p q : ℕ) → high (headerText p q) ≡ true
-unfolding headerText bytes high everyOf
+unfolding headerText bytes everyOf
 high-header p q =
     high-append (bytes "parent,tag") (times p (bytes ",+,#") ++ times q (bytes ",-,#")) refl
     (high-append (times p (bytes ",+,#")) (times q (bytes ",-,#")) (high-times p (bytes ",+,#") refl) (high-times q (bytes ",-,#") refl))
 
--- ---- a number
-number-digits : (n : ℕ) → n ≤ 99999 → everyOf digit (decimal n) ≡ true
-number-digits n h = numeral-at (decimal n) (numeral-decimal n h) .digits
-
-number-free : (n : ℕ) → n ≤ 99999 → NoComma (decimal n)
-number-free n h i l q = omega (arith, digit-at (getD (decimal n) i 0) (everyOf-at digit (decimal n) 0 (number-digits n h) i l) .low)
-
+-- ---- a node line
 values-are : (ns : List ℕ) → ((i : ℕ) → i < length ns → getD ns i 0 ≤ 99999) → map value (map decimal ns) ≡ ns
 values-are [] h = refl
 values-are (n ∷ ns) h = ap₂ _∷_ (value-decimal n (omega (arith, h 0 (omega arith)))) (values-are ns (λ i l. h (suc i) (omega arith)))
 
--- ---- a node line
 module _ (ns : List ℕ) (some : 0 < length ns) (small : (i : ℕ) → i < length ns → getD ns i 0 ≤ 99999) where
   fields-are : fields (rowText ns) ≡ map decimal ns
   unfolding rowText
   fields-are = fields-joined (map decimal ns) (omega (arith, length-map ns decimal)) free
     where
       free : (i : ℕ) → i < length (map decimal ns) → NoComma (getD (map decimal ns) i [])
-      free i l = let k : i < length ns = omega (arith, length-map ns decimal) in rw (map-at decimal ns i 0 [] k) (number-free (getD ns i 0) (small i k))
+      free i l =
+          let k : i < length ns = omega (arith, length-map ns decimal) in
+          rw (map-at decimal ns i 0 [] k) (digits-free (decimal (getD ns i 0)) (decimal-digits (getD ns i 0)))
 
   row-high : high (rowText ns) ≡ true
   unfolding rowText
   row-high =
       high-joined (map decimal ns)
       (λ i l. let k : i < length ns = omega (arith, length-map ns decimal) in
-      rw (map-at decimal ns i 0 [] k) (high-digits (decimal (getD ns i 0)) (number-digits (getD ns i 0) (small i k))))
+      rw (map-at decimal ns i 0 [] k) (high-digits (decimal (getD ns i 0)) (decimal-digits (getD ns i 0))))
 
   row-is : rowOf (rowText ns) ≡ ns
   unfolding rowOf

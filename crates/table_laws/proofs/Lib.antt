@@ -1,3 +1,5 @@
+mod Lent
 pub mod Meaning
+pub mod Records
 pub mod Printed
 pub mod Cases

@@ -2,38 +2,43 @@
 --   output-long, output-first, output-lawful   INPUT is given exactly for an input that breaks a rule, at place 0 where it has more than
 --                    16,384 bytes and else at the first line, from 1, that breaks one; any other input reaches the searches
 --   output-no-list-no-room   on a table that has been read, no search gives LIST or ROOM
+--   refused-line, empty-line, node-lines   a refusal and an empty answer have one line with an empty node field, another answer one line for each node
+--   output-no-nodes  a header with no node lines reaches the searches and gives SIZE
 --   output-fits      an output has at most 16,384 bytes
+--   output-held      so a buffer of that length holds the whole output
 -- Letters: s input; T table; I index; r reply.
 use Prim.Native.Nat.{ℕ, suc, zero-le, _+_, _*_, _≤_, _<_}
-use mathlib.Core.Path.{_≡_, refl, sym, ap, _∙_}
+use mathlib.Core.Path.{_≡_, refl, sym, ap, ap₂, _∙_}
 use mathlib.Core.Logic.{⊎-elim}
 use mathlib.Core.List.{List, [], _∷_, _++_}
 use mathlib.Core.Bool.{Bool, true}
 use native.Mathlib.Nat.{mul-le-mul-right}
 use native.Mathlib.Omega.{arith}
-use borrow.Author.Tests.{le-leb, eqb-true}
-use lib.Dec.{eqb}
-use lib.ListN.{length, length-append}
-use Rattle.seq.specs.Below.{listed}
+use borrow.Author.Tests.{le-leb, lt-leb, eq-eqb, ne-eqb, eqb-true}
+use lib.Dec.{eqb, leb}
+use lib.ListN.{length, take, length-append}
+use Rattle.seq.specs.Below.{tabulate, listed}
 use Rattle.seq.specs.Lists.{EachBelow}
-use Rattle.seq.proofs.Laws.Bools.{bool-cases, and-both}
+use Rattle.seq.proofs.Laws.Bools.{bool-cases, and-both, and-false-left}
 use Rattle.seq.proofs.Laws.Numbers.{less-or}
 use Rattle.seq.proofs.Laws.Lists.{each-tail}
 use Rattle.seq.proofs.Laws.Gather.{length-tabulate, length-gather, listed-le}
 use Rattle.seq.proofs.Laws.Members.{listed-below}
 use Rattle.index.specs.declared.Reply.{Reply}
 use Rattle.index.specs.Index.{Index, nodes, words}
-use Rattle.index.specs.Replies.{accepted, LIST, ROOM, refused, checked, sizeOk}
+use Rattle.index.specs.Replies.{accepted, SIZE, LIST, ROOM, refused, checked, nodesOk, sizeOk}
 use Rattle.tree.specs.Rules.{treeBad}
 use Rattle.index.specs.Rules.{listsBad, countsBad}
 use Rattle.index.proofs.Laws.Replies.{checked-size, checked-tree, checked-count, checked-all, clean-reply, clean-or-stopped}
 use Rattle.answers.specs.Searches.{isElca, isSlca, isValid, outOf, ownOf, roomed, outFits, ownFits, elcaReply, slcaReply, validReply}
 use Rattle.text.specs.Text.{bytes, lines, decimal}
+use Rattle.text.specs.Buffers.{Wrote}
 use Rattle.text.proofs.Meaning.{length-decimal, decimal-most}
+use Rattle.text.proofs.Laws.Buffers.{front-take}
 use Rattle.sheet.specs.declared.Shape.{Shape}
 use Rattle.sheet.specs.declared.Read.{Read}
 use Rattle.sheet.specs.declared.Read.the-variants.{Broken, Taken}
-use Rattle.sheet.specs.Table.{Table, tableOf}
+use Rattle.sheet.specs.Table.{Table, cell, tableOf}
 use Rattle.sheet.specs.Plain.{Lawful, First}
 use Rattle.sheet.specs.Contracts.{readOf}
 use Rattle.sheet.proofs.Laws.Reading.{taken-at}
@@ -41,7 +46,7 @@ use Rattle.sheet.proofs.Meaning.{input-long, input-first, input-none}
 use Rattle.rows.specs.Lent.{indexOf}
 use Rattle.report.specs.Lines.{replyText, lineText, nodeLines, answerText, listedBy, lentWork, lentOut, lentOwn, elcaText, slcaText, validText}
 use Rattle.rows.specs.Output.{answersText, headText, INPUT, inputText, tableOutput}
-use Rattle.rows.proofs.Laws.Lent.{lists-lent}
+use Rattle.table_laws.proofs.Lent.{lists-lent}
 use Rattle.rows.proofs.Laws.Output.{output-broken, output-table}
 
 -- ---- INPUT
@@ -55,6 +60,40 @@ module _ (s : List ℕ) (h : length s ≤ 16384) where
   pub output-lawful : Lawful (lines s) → tableOutput s ≡ headText ++ answersText (tableOf (lines s))
   output-lawful l = sym (output-table s _ (readOf s) refl (input-none s h l))
 
+-- ---- the lines of a search
+module _ (name : List ℕ) (r : Reply) where
+  pub refused-line : (l : List ℕ) → (r .refusal ≡ accepted → ⊥) → answerText name r (listedBy r l) ≡ lineText name r []
+  unfolding answerText listedBy
+  refused-line l e = rw (ne-eqb (r .refusal) accepted e)
+
+  pub empty-line : answerText name r (listedBy r []) ≡ lineText name r []
+  unfolding answerText listedBy
+  empty-line = ⊎-elim (λ q. rw q) (λ q. rw q) (bool-cases (eqb (r .refusal) accepted))
+
+  pub node-lines : (v : ℕ) (l : List ℕ) → r .refusal ≡ accepted → answerText name r (listedBy r (v ∷ l)) ≡ nodeLines name r (v ∷ l)
+  unfolding answerText listedBy
+  node-lines v l e = rw (eq-eqb (r .refusal) accepted e)
+
+-- ---- no node lines
+size-line : (name : List ℕ) (most : ℕ) (I : Index) (w : ℕ) (r : Reply) (l : List ℕ) → nodes I ≡ 0 →
+    answerText name (checked most I w r) (listedBy (checked most I w r) l) ≡ lineText name (refused SIZE 0) []
+unfolding sizeOk nodesOk
+size-line name most I w r l e =
+    ap (λ (x : Reply). answerText name x (listedBy x l))
+    (checked-size most I w r (and-false-left _ _ (and-false-left _ _ (and-false-left (leb 1 (nodes I)) _ (lt-leb 1 (nodes I) (omega arith))))))
+    ∙ refused-line name (refused SIZE 0) l (λ q. omega arith)
+
+pub output-no-nodes : (T : Table) → T .nodes ≡ 0 →
+    answersText T ≡ lineText (bytes "elca") (refused SIZE 0) [] ++ (lineText (bytes "slca") (refused SIZE 0) [] ++ lineText (bytes "valid") (refused SIZE 0) [])
+unfolding answersText elcaText slcaText validText elcaReply slcaReply validReply indexOf
+output-no-nodes T e =
+    ap₂ _++_ (size-line (bytes "elca") 0 (indexOf T (T .positive) 0) 2560 _ _ none)
+    (ap₂ _++_ (size-line (bytes "slca") 0 (indexOf T (T .positive) 0) 2560 _ _ none)
+    (size-line (bytes "valid") 8 (indexOf T (T .positive) (T .negative)) 2560 _ _ none))
+  where
+    none : length (tabulate (T .nodes) (λ v. cell T v 0)) ≡ 0
+    none = length-tabulate (T .nodes) (λ v. cell T v 0) ∙ e
+
 -- ---- LIST and ROOM
 -- A reply that is neither.
 pub record Neither (r : Reply) : Type 0 where
@@ -66,7 +105,8 @@ known : (r s : Reply) → r ≡ s → (s .refusal ≡ LIST → ⊥) → (s .refu
 known r s e a b = record { noList = λ q. a (sym (ap (λ (x : Reply). x .refusal) e) ∙ q); noRoom = λ q. b (sym (ap (λ (x : Reply). x .refusal) e) ∙ q) }
 
 -- Where no word breaks a rule and there is room for the answer.
-neither : (most : ℕ) (I : Index) (w : ℕ) (f : ℕ → Bool) (b : Bool) → words I ≤ listsBad (nodes I) (I .ends) (I .occurrences) → b ≡ true → Neither (checked most I w (roomed I f b))
+neither : (most : ℕ) (I : Index) (w : ℕ) (f : ℕ → Bool) (b : Bool) → words I ≤ listsBad (nodes I) (I .ends) (I .occurrences) → b ≡ true →
+    Neither (checked most I w (roomed I f b))
 unfolding roomed
 neither most I w f b l e =
     ⊎-elim
@@ -128,7 +168,8 @@ output-no-list-no-room T m = record {
 }
 
 -- ---- how long an output is
-length-line : (name : List ℕ) (r : Reply) (node : List ℕ) → length (lineText name r node) ≡ length name + (length (decimal (r .refusal)) + (length (decimal (r .place)) + (length node + 5)))
+length-line : (name : List ℕ) (r : Reply) (node : List ℕ) →
+    length (lineText name r node) ≡ length name + (length (decimal (r .refusal)) + (length (decimal (r .place)) + (length node + 5)))
 unfolding lineText replyText bytes
 length-line name r node =
     omega (
@@ -140,7 +181,8 @@ length-line name r node =
       length-append (decimal (r .place)) (44 ∷ []),
     )
 
-length-nodes : (name : List ℕ) (r : Reply) (l : List ℕ) → length name ≤ 5 → r .refusal ≡ 0 → r .place ≡ 0 → EachBelow 256 l → length (nodeLines name r l) ≤ 15 * length l
+length-nodes : (name : List ℕ) (r : Reply) (l : List ℕ) → length name ≤ 5 → r .refusal ≡ 0 → r .place ≡ 0 → EachBelow 256 l →
+    length (nodeLines name r l) ≤ 15 * length l
 unfolding nodeLines decimal
 length-nodes name r [] a b c h = zero-le
 length-nodes name r (v ∷ l) a b c h =
@@ -229,3 +271,14 @@ output-fits s = by (readOf s) refl
           head-length,
           answers-length (tableOf (lines s)) (taken-small s t (sym e)),
         )
+
+-- What is written to a buffer that is long enough.
+pub record Held (s out : List ℕ) (r : ℕ) : Type 0 where
+  pub size : r ≡ length (tableOutput s)
+  pub whole : take r out ≡ tableOutput s
+
+pub output-held : (s o out : List ℕ) (r : ℕ) → 16384 ≤ length o → Wrote (tableOutput s) o out r → Held s out r
+output-held s o out r h w = record { size = here; whole = ap₂ take here (w .holds) ∙ front-take (tableOutput s) o (omega (arith, output-fits s)) }
+  where
+    here : r ≡ length (tableOutput s)
+    here = omega (arith, w .next, output-fits s)

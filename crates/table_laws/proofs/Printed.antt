@@ -1,18 +1,19 @@
 -- The index read from the table of an index is that index. Assumes nothing.
 --   index-read     the table is taken, with the index's numbers of words and nodes
---   index-again    the index that the table lends to the searches on all words is the index that was written
+--   index-again    the index that the table lends to the search on all words is the index that was written
+--   printed-output  so the output for it is that of ELCA and SLCA on its positive words and of valid SLCA on the whole index
 -- Letters: I index; T table; R rows; v node, j word, i field, e entry; n nodes, k words.
 use Prim.Native.Nat.{ℕ, zero, suc, _+_, _*_, _-_, _/_, _%_, _≤_, _<_}
 use mathlib.Core.Path.{_≡_, refl, sym, ap, ap₂, _∙_}
 use mathlib.Core.Logic.{⊎-elim}
-use mathlib.Core.List.{List, [], _∷_, _++_}
+use mathlib.Core.List.{List, [], _++_}
 use mathlib.Core.Bool.{Bool, true, false, cond, false≢true}
-use native.Mathlib.Nat.{not-suc-le-zero, le-of-suc-le-suc, mul-zero, mod-lt, div-lt-iff-lt-mul, div-add-mod'}
+use native.Mathlib.Nat.{not-suc-le-zero, le-of-suc-le-suc, add-zero, mul-zero, mul-le-mul-right, mod-lt, div-lt-iff-lt-mul, div-add-mod'}
 use native.Mathlib.Omega.{arith}
 use borrow.Author.Tests.{eq-eqb, ne-eqb, eqb-true}
 use lib.Dec.{eqb, leb}
-use lib.ListN.{length, getD, take, drop}
-use lib.Seq.{ext-getD, take-add, take-length, length-take-le}
+use lib.ListN.{length, getD, take}
+use lib.Seq.{ext-getD, take-add, take-length, length-take-le, getD-take}
 use Rattle.seq.specs.Below.{tabulate, listed}
 use Rattle.seq.specs.Lists.{someOf}
 use Rattle.seq.proofs.Laws.Bools.{bool-cases, and-right}
@@ -26,8 +27,11 @@ use Rattle.sheet.specs.Table.{Table, width, occurrence, cell, tableOf}
 use Rattle.sheet.specs.Contracts.{readOf}
 use Rattle.sheet.specs.Printed.{allRows, inRow, Printable}
 use Rattle.sheet.proofs.Printed.{printed-table, printed-read, rows-cell}
+use Rattle.report.specs.Lines.{elcaText, slcaText, validText}
 use Rattle.rows.specs.Lent.{listOf, listsOf, endOf, countOf, indexOf}
-use Rattle.table_laws.specs.Printed.{occursAt, wordAt, numberAt, rowsFrom, rowsOf, indexText, Tabular}
+use Rattle.rows.specs.Output.{answersText, headText, tableOutput}
+use Rattle.rows.proofs.Laws.Output.{output-table}
+use Rattle.table_laws.specs.Printed.{occursAt, wordAt, numberAt, rowsFrom, rowsOf, indexText, Tabular, positivePart}
 
 -- A product that is above a number has a factor above 0.
 product-some : (e k n : ℕ) → e < k * n → 0 < n
@@ -208,16 +212,45 @@ module _ (I : Index) (t : Tabular I) where
       ext-getD 0 (tabulate n f) l (length-tabulate n f ∙ sym e)
       (λ i k. let m : i < n = omega (arith, length-tabulate n f) in getD-tabulate n f i 0 m ∙ h i m)
 
-  pub index-again : indexOf (tableOf (lines (indexText I))) (I .positive) (I .negative) ≡ I
+  index-is : indexOf T (I .positive) (I .negative) ≡ I
   unfolding indexOf numberAt
-  index-again =
-      ap (λ (X : Table). indexOf X (I .positive) (I .negative)) table-is
-      ∙ (λ i. record {
-        parents = tabled (nodes I) (λ v. cell T v 0) (I .parents) refl (λ v l. cell-is v 0 l (omega arith)) i;
-        tags = tabled (nodes I) (λ v. cell T v 1) (I .tags) (t .tagged) (λ v l. cell-is v 1 l (omega arith)) i;
-        positive = I .positive;
-        negative = I .negative;
-        ends = tabled (words I) (endOf T) (I .ends) (t .ended) end-is i;
-        occurrences = lists-all (words I) (omega (arith, t .somePositive)) refl i;
-        counts = tabled (words I * nodes I) (countOf T) (I .counts) (t .counted) count-is i;
-      })
+  index-is = λ i. record {
+    parents = tabled (nodes I) (λ v. cell T v 0) (I .parents) refl (λ v l. cell-is v 0 l (omega arith)) i;
+    tags = tabled (nodes I) (λ v. cell T v 1) (I .tags) (t .tagged) (λ v l. cell-is v 1 l (omega arith)) i;
+    positive = I .positive;
+    negative = I .negative;
+    ends = tabled (words I) (endOf T) (I .ends) (t .ended) end-is i;
+    occurrences = lists-all (words I) (omega (arith, t .somePositive)) refl i;
+    counts = tabled (words I * nodes I) (countOf T) (I .counts) (t .counted) count-is i;
+  }
+
+  pub index-again : indexOf (tableOf (lines (indexText I))) (I .positive) (I .negative) ≡ I
+  index-again = ap (λ (X : Table). indexOf X (I .positive) (I .negative)) table-is ∙ index-is
+
+  -- ---- the positive words alone
+  few-counts : I .positive * nodes I ≤ words I * nodes I
+  few-counts = mul-le-mul-right {m = I .positive} {n = words I} (nodes I) (omega arith)
+
+  -- The first m entries of a list, by its entries.
+  tabled-first : (m k : ℕ) (f : ℕ → ℕ) (l : List ℕ) → k ≡ m → m ≤ length l → ((i : ℕ) → i < m → f i ≡ getD l i 0) → tabulate k f ≡ take m l
+  tabled-first m k f l e h g =
+      ap (λ (n : ℕ). tabulate n f) e ∙ tabled m f (take m l) (length-take-le m l h) (λ i q. g i q ∙ sym (getD-take m l i 0 q))
+
+  part-is : indexOf T (I .positive) 0 ≡ positivePart I
+  unfolding indexOf numberAt positivePart
+  part-is = λ i. record {
+    parents = tabled (nodes I) (λ v. cell T v 0) (I .parents) refl (λ v l. cell-is v 0 l (omega arith)) i;
+    tags = tabled (nodes I) (λ v. cell T v 1) (I .tags) (t .tagged) (λ v l. cell-is v 1 l (omega arith)) i;
+    positive = I .positive;
+    negative = 0;
+    ends = tabled-first (I .positive) (I .positive + 0) (endOf T) (I .ends) (add-zero (I .positive)) (omega (arith, t .ended)) (λ j l. end-is j (omega arith)) i;
+    occurrences = (ap (listsOf T) (add-zero (I .positive)) ∙ lists-are (I .positive) (omega arith)) i;
+    counts = tabled-first (I .positive * nodes I) ((I .positive + 0) * nodes I) (countOf T) (I .counts) (ap (λ (m : ℕ). m * nodes I) (add-zero (I .positive)))
+        (omega (arith, t .counted, few-counts)) (λ e l. count-is e (omega (arith, few-counts))) i;
+  }
+
+  pub printed-output : tableOutput (indexText I) ≡ headText ++ (elcaText (positivePart I) ++ (slcaText (positivePart I) ++ validText I))
+  unfolding answersText
+  printed-output =
+      sym (output-table (indexText I) _ (readOf (indexText I)) refl index-read) ∙ ap (λ (X : Table). headText ++ answersText X) table-is
+      ∙ ap₂ (λ (X Y : Index). headText ++ (elcaText X ++ (slcaText X ++ validText Y))) part-is index-is

@@ -2,17 +2,18 @@
 --   numberAt I v i  == the number in field i of node v's line: parent, tag, then for each word whether it occurs there and its count
 --   rowsOf I        == the numbers of each node's line
 --   indexText I     == the table of an index, each line ended by CR LF
---   Tabular I        == an index that such a table can hold, whose lists keep their rules
+--   Tabular I       == an index that such a table can hold, whose lists keep their rules
+--   positivePart I  == the index of its positive words alone: what ELCA and SLCA run on
 -- Letters: I index; v node, j word, i field, e entry. Assumes nothing.
 use Prim.Native.Nat.{ℕ, zero, suc, _+_, _*_, _/_, _%_, _≤_, _<_}
 use mathlib.Core.Path.{_≡_}
 use mathlib.Core.List.{List, [], _∷_}
 use mathlib.Core.Bool.{cond}
 use lib.Dec.{eqb}
-use lib.ListN.{length, getD}
+use lib.ListN.{length, getD, take}
 use Rattle.seq.specs.Below.{tabulate}
 use Rattle.seq.specs.Lists.{someOf}
-use Rattle.index.specs.Index.{Index, nodes, words, wordList}
+use Rattle.index.specs.Index.{Index, nodes, words, start, wordList}
 use Rattle.index.specs.Plain.{WordKept}
 use Rattle.sheet.specs.Table.{width}
 use Rattle.sheet.specs.Printed.{tableText}
@@ -53,3 +54,14 @@ pub record Tabular (I : Index) : Type 0 where
   pub smallTags : (v : ℕ) → v < nodes I → getD (I .tags) v 0 ≤ 99999
   pub smallCounts : (e : ℕ) → e < words I * nodes I → getD (I .counts) e 0 ≤ 99999
   pub short : length (indexText I) ≤ 16384
+
+unfoldable pub positivePart : Index → Index
+positivePart I = record {
+  parents = I .parents;
+  tags = I .tags;
+  positive = I .positive;
+  negative = 0;
+  ends = take (I .positive) (I .ends);
+  occurrences = take (start (I .ends) (I .positive)) (I .occurrences);
+  counts = take (I .positive * nodes I) (I .counts);
+}

@@ -2,6 +2,7 @@
 --   fields-join, fields-free   a line is its fields with commas between them, and no field has a comma
 --   lines-join, lines-free     a text is its lines with CR LF between them, and CR LF or nothing at the end; no line has CR LF in it
 --   value-decimal              the digits of a number give that number
+--   decimal-digits             each is a digit
 --   numeral-decimal            and they are a number of the table where it has at most 5 digits
 -- Letters: s text, L lines, l line, fs fields, f field; n number, d digits.
 use Prim.Native.Nat.{ℕ, zero, suc, zero-le, _+_, _*_, _-_, _^_, _/_, _%_, _≤_, _<_}
@@ -241,6 +242,10 @@ digits-digits zero n = refl
 digits-digits (suc d) n =
     ⊎-elim (λ q. rw q) (λ q. rw q (every-last (digitsIn d (n / 10)) (48 + n % 10) (digits-digits d (n / 10)) (digit-of (48 + n % 10) (omega arith) (omega arith))))
     (bool-cases (eqb n 0))
+
+pub decimal-digits : (n : ℕ) → everyOf digit (decimal n) ≡ true
+unfolding decimal everyOf digit
+decimal-digits n = ⊎-elim (λ q. rw q) (λ q. rw q (digits-digits 10 n)) (bool-cases (eqb n 0))
 
 digits-step : (d n : ℕ) → (n ≡ 0 → ⊥) → digitsIn (suc d) n ≡ digitsIn d (n / 10) ++ ((48 + n % 10) ∷ [])
 unfolding digitsIn

@@ -99,11 +99,11 @@ pub fn put_byte(out: &mut [u8], at: usize, x: u8) -> usize
 }
 
 // One number.
-pub fn put_word(out: &mut [u32], at: usize, x: u32) -> usize
-    ensures { λ r. ⌜ Adds (x ∷ []) (now (out .entry)) at (now (out .exit)) r ⌝ }
+pub fn put_word(out: &mut [u32], at: usize, word: u32) -> usize
+    ensures { λ r. ⌜ Adds (word ∷ []) (now (out .entry)) at (now (out .exit)) r ⌝ }
 {
     if at < out.len() {
-        out[at] = x;
+        out[at] = word;
         return at + 1;
     }
     at

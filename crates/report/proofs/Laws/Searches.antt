@@ -47,10 +47,12 @@ module _ (I : Index) (r : Reply) (o′ : List ℕ) where
   unfolding elcaText elcaReply elcaOut
   elca-text e h = text-of (bytes "elca") r _ (outOf I (isElca I)) lentOut o′ e h (total-listed 0 I 2560 (isElca I) _)
 
-  pub slca-text : r ≡ slcaReply I lentWork lentOut → o′ ≡ slcaOut I lentWork lentOut → answerText (bytes "slca") r (listedBy r (take (r .total) o′)) ≡ slcaText I
+  pub slca-text : r ≡ slcaReply I lentWork lentOut → o′ ≡ slcaOut I lentWork lentOut →
+      answerText (bytes "slca") r (listedBy r (take (r .total) o′)) ≡ slcaText I
   unfolding slcaText slcaReply slcaOut
   slca-text e h = text-of (bytes "slca") r _ (outOf I (isSlca I)) lentOut o′ e h (total-listed 0 I 2560 (isSlca I) _)
 
-  pub valid-text : r ≡ validReply I lentWork lentOut → o′ ≡ validOut I lentWork lentOut → answerText (bytes "valid") r (listedBy r (take (r .total) o′)) ≡ validText I
+  pub valid-text : r ≡ validReply I lentWork lentOut → o′ ≡ validOut I lentWork lentOut →
+      answerText (bytes "valid") r (listedBy r (take (r .total) o′)) ≡ validText I
   unfolding validText validReply validOut
   valid-text e h = text-of (bytes "valid") r _ (outOf I (isValid I)) lentOut o′ e h (total-listed 8 I 2560 (isValid I) _)

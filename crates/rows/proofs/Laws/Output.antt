@@ -1,4 +1,4 @@
--- The whole output, by what reading the input gives. Assumes nothing.
+-- The whole output, by what reading the input gives, and that no second outcome fits `answer_table`. Assumes nothing.
 -- Letters: s input; t the table's numbers of words and nodes; r what reading gives.
 use Prim.Native.Nat.{ℕ}
 use mathlib.Core.Path.{_≡_, refl, sym, ap, _∙_}
@@ -7,6 +7,8 @@ use mathlib.Core.Bool.{Bool, true, false, cond}
 use lib.Dec.{ltb}
 use lib.ListN.{length}
 use Rattle.text.specs.Text.{lines}
+use Rattle.text.specs.Buffers.{Wrote}
+use Rattle.text.proofs.Laws.Buffers.{Same}
 use Rattle.sheet.specs.declared.Shape.{Shape}
 use Rattle.sheet.specs.declared.Read.{Read}
 use Rattle.sheet.specs.declared.Read.the-variants.{Broken, Taken}
@@ -37,3 +39,7 @@ output-broken s place r e f = sym (output-read s ∙ ap (λ (x : Read). headText
 pub output-table : (s : List ℕ) (t : Shape) (r : Read) → r ≡ readOf s → r ≡ Taken t → headText ++ answersText (tableOf (lines s)) ≡ tableOutput s
 unfolding readText
 output-table s t r e f = sym (output-read s ∙ ap (λ (x : Read). headText ++ readText s x) (sym e ∙ f))
+
+-- ---- no second outcome fits
+pub answer-unique : (s o a b : List ℕ) (r r′ : ℕ) → Wrote (tableOutput s) o a r → Wrote (tableOutput s) o b r′ → Same a b r r′
+answer-unique s o a b r r′ x y = record { buffer = x .holds ∙ sym (y .holds); next = x .next ∙ sym (y .next) }

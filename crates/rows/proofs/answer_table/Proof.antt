@@ -1,7 +1,6 @@
 -- `rows::answer_table` meets its contract: the header line, and then the line of INPUT or the lines of the three searches.
 use mathlib.Core.Path.{refl, sym, _∙_}
 use native.Mathlib.Omega.{arith}
-use borrow.Author.Needs.{needs}
 use lib.Seq.{length-take-le}
 use Rattle.text.specs.Text.{bytes}
 use Rattle.text.proofs.Laws.Buffers.{adds-same, adds-append, adds-all}
@@ -24,7 +23,7 @@ put-text-requires : tie.Need-put-text-requires
 put-text-requires c κs = tt
 
 enum-known-read : tie.Need-enum-known-read
-enum-known-read c = search needs
+enum-known-read c = c .match .keys1
 
 slice-aggregate-put-bare : tie.Need-slice-aggregate-put-bare
 slice-aggregate-put-bare c = refl
@@ -33,7 +32,7 @@ put-bare-requires : tie.Need-put-bare-requires
 put-bare-requires c κs = tt
 
 enum-known-read-2 : tie.Need-enum-known-read-2
-enum-known-read-2 c = search needs
+enum-known-read-2 c = c .match .keys2
 
 add-m : tie.Need-add-m
 add-m c =

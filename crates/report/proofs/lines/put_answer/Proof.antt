@@ -32,7 +32,8 @@ returns c =
     let c4 = c2 .before .before in
     let c5 = c4 .before in
     let c9 = c5 .before .before .before .before in
-    adds-same _ _ _ _ _ _ (answer-none _ _ _ (ap (λ (k : ℕ). take k (c9 .args .nodes .now)) (sym (c4 .if1 .taken)) ∙ c5 .shown .ensures .lists)) (c2 .put-line .ensures)
+    adds-same _ _ _ _ _ _
+    (answer-none _ _ _ (ap (λ (k : ℕ). take k (c9 .args .nodes .now)) (sym (c4 .if1 .taken)) ∙ c5 .shown .ensures .lists)) (c2 .put-line .ensures)
 
 loop-holds : tie.Need-loop-holds Inv-loop μ-loop
 loop-holds c = adding-start _ _ _ _ (nodes-none _ _)
@@ -59,7 +60,10 @@ loop-again c =
     let c6 = c5 .before in
     let c8 = c6 .before .before in
     let c12 = c8 .before .before .before .before in
-    adding-step _ _ _ _ _ _ _ (c6 .loop .inv) _ _ _ (c5 .loop-test .taken) (ap (nodeLines (c12 .args .name .now) (c12 .args .reply)) (take-more (c12 .args .nodes .now) (c6 .loop .i) (omega (arith, c5 .loop-test .taken, c8 .shown .ensures .within))) ∙ nodes-more _ _ _ _) (c2 .put-node .kept .0) (c2 .put-node .ensures)
+    adding-step _ _ _ _ _ _ _ (c6 .loop .inv) _ _ _ (c5 .loop-test .taken)
+    (ap (nodeLines (c12 .args .name .now) (c12 .args .reply))
+    (take-more (c12 .args .nodes .now) (c6 .loop .i) (omega (arith, c5 .loop-test .taken, c8 .shown .ensures .within)))
+    ∙ nodes-more _ _ _ _) (c2 .put-node .kept .0) (c2 .put-node .ensures)
 
 same-length-2 : tie.Need-same-length-2 Inv-loop μ-loop
 same-length-2 c = c .before .loop .inv .long
@@ -69,7 +73,10 @@ returns-2 c =
     let c2 = c .before .before in
     let c3 = c2 .before in
     let c7 = c3 .before .before .before .before in
-    adds-same _ _ _ _ _ _ (answer-some _ _ _ (omega (arith, length-take-le (c3 .shown .result) (c7 .args .nodes .now) (c3 .shown .ensures .within), c2 .if1 .left)) ∙ ap (answerText (c7 .args .name .now) (c7 .args .reply)) (c3 .shown .ensures .lists)) (adding-end _ _ _ _ _ _ _ (c .before .loop .inv) (c .loop-test .left))
+    adds-same _ _ _ _ _ _
+    (answer-some _ _ _ (omega (arith, length-take-le (c3 .shown .result) (c7 .args .nodes .now) (c3 .shown .ensures .within), c2 .if1 .left))
+    ∙ ap (answerText (c7 .args .name .now) (c7 .args .reply)) (c3 .shown .ensures .lists))
+    (adding-end _ _ _ _ _ _ _ (c .before .loop .inv) (c .loop-test .left))
 
 pub put-answer-spec : {M : Type 1} → statement M
 put-answer-spec =

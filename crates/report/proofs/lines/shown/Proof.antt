@@ -13,7 +13,10 @@ least-requires : tie.Need-least-requires
 least-requires c κs = tt
 
 returns : tie.Need-returns
-returns c = shown-accepted _ _ _ (c .before .before .if1 .taken) (c .least .ensures ∙ ap (λ (k : ℕ). min k (length (c .before .before .before .before .before .args .nodes .now))) (c .before .widen .ensures))
+returns c =
+    let c5 = c .before .before .before .before .before in
+    shown-accepted _ _ _ (c .before .before .if1 .taken)
+    (c .least .ensures ∙ ap (λ (k : ℕ). min k (length (c5 .args .nodes .now))) (c .before .widen .ensures))
 
 returns-2 : tie.Need-returns-2
 returns-2 c = shown-refused _ _ (c .if1 .left)

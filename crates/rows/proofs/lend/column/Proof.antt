@@ -18,7 +18,10 @@ loop-holds : tie.Need-loop-holds Inv-loop μ-loop
 loop-holds c = along-start _ _ _ _ _ _ (tabulate-zero _)
 
 mul-put-word : tie.Need-mul-put-word Inv-loop μ-loop
-mul-put-word c = omega (arith, along-below _ _ _ _ _ _ _ _ _ _ (c .before .before .loop .inv) (c .before .before .before .before .before .args .cells .now) (c .before .before .before .before .before .pre) (c .before .loop-test .taken), c .before .before .before .before .before .good)
+mul-put-word c =
+    let c2 = c .before .before in
+    let c5 = c2 .before .before .before in
+    omega (arith, along-below _ _ _ _ _ _ _ _ _ _ (c2 .loop .inv) (c5 .args .cells .now) (c5 .pre) (c .before .loop-test .taken), c5 .good)
 
 shared-slice-read-put-word : tie.Need-shared-slice-read-put-word Inv-loop μ-loop
 shared-slice-read-put-word c =
@@ -35,7 +38,12 @@ add-from c =
     let c5 = c .before .before .before .before .before in
     let c6 = c5 .before in
     let c9 = c6 .before .before .before in
-    omega (arith, along-below _ _ _ _ _ _ _ _ _ _ (c6 .loop .inv) (c9 .args .cells .now) (c9 .pre) (c5 .loop-test .taken), along-wide _ _ _ _ _ _ _ _ _ _ (c6 .loop .inv) (c9 .args .cells .now) (c9 .pre) (c5 .loop-test .taken), c9 .good)
+    omega (
+      arith,
+      along-below _ _ _ _ _ _ _ _ _ _ (c6 .loop .inv) (c9 .args .cells .now) (c9 .pre) (c5 .loop-test .taken),
+      along-wide _ _ _ _ _ _ _ _ _ _ (c6 .loop .inv) (c9 .args .cells .now) (c9 .pre) (c5 .loop-test .taken),
+      c9 .good,
+    )
 
 add-v : tie.Need-add-v Inv-loop μ-loop
 add-v c = omega arith

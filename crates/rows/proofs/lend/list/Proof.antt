@@ -11,7 +11,8 @@ use Rattle.rows.proofs.lend.list.Statement.{statement}
 use Rattle.rows.proofs.lend.list.Tie as tie
 
 abbrev Inv-loop : tie.InvT-loop
-Inv-loop cells width i n out₀ at next₀ from₀ v₀ out next from v = Along (λ j. listed j (λ u. eqb (getD cells (u * width + i) 0) 1)) width i n out₀ at out next from v
+Inv-loop cells width i n out₀ at next₀ from₀ v₀ out next from v =
+    Along (λ j. listed j (λ u. eqb (getD cells (u * width + i) 0) 1)) width i n out₀ at out next from v
 
 abbrev μ-loop : tie.MeasureT-loop
 μ-loop cells width i n out₀ at next₀ from₀ v₀ out next from v = n - v
@@ -20,10 +21,14 @@ loop-holds : tie.Need-loop-holds Inv-loop μ-loop
 loop-holds c = along-start _ _ _ _ _ _ (listed-zero _)
 
 mul-if1 : tie.Need-mul-if1 Inv-loop μ-loop
-mul-if1 c = omega (arith, along-below _ _ _ _ _ _ _ _ _ _ (c .before .loop .inv) (c .before .before .before .before .args .cells .now) (c .before .before .before .before .pre) (c .loop-test .taken), c .before .before .before .before .good)
+mul-if1 c =
+    let c4 = c .before .before .before .before in
+    omega (arith, along-below _ _ _ _ _ _ _ _ _ _ (c .before .loop .inv) (c4 .args .cells .now) (c4 .pre) (c .loop-test .taken), c4 .good)
 
 shared-slice-read-if1 : tie.Need-shared-slice-read-if1 Inv-loop μ-loop
-shared-slice-read-if1 c = along-below _ _ _ _ _ _ _ _ _ _ (c .before .before .loop .inv) (c .before .before .before .before .before .args .cells .now) (c .before .before .before .before .before .pre) (c .before .loop-test .taken)
+shared-slice-read-if1 c =
+    let c5 = c .before .before .before .before .before in
+    along-below _ _ _ _ _ _ _ _ _ _ (c .before .before .loop .inv) (c5 .args .cells .now) (c5 .pre) (c .before .loop-test .taken)
 
 cast-put-word : tie.Need-cast-put-word Inv-loop μ-loop
 cast-put-word c =
@@ -39,7 +44,12 @@ add-from c =
     let c2 = c .before .before in
     let c3 = c2 .before in
     let c6 = c3 .before .before .before in
-    omega (arith, along-below _ _ _ _ _ _ _ _ _ _ (c3 .loop .inv) (c6 .args .cells .now) (c6 .pre) (c2 .loop-test .taken), along-wide _ _ _ _ _ _ _ _ _ _ (c3 .loop .inv) (c6 .args .cells .now) (c6 .pre) (c2 .loop-test .taken), c6 .good)
+    omega (
+      arith,
+      along-below _ _ _ _ _ _ _ _ _ _ (c3 .loop .inv) (c6 .args .cells .now) (c6 .pre) (c2 .loop-test .taken),
+      along-wide _ _ _ _ _ _ _ _ _ _ (c3 .loop .inv) (c6 .args .cells .now) (c6 .pre) (c2 .loop-test .taken),
+      c6 .good,
+    )
 
 add-v : tie.Need-add-v Inv-loop μ-loop
 add-v c = omega arith
@@ -53,7 +63,8 @@ loop-again c =
     let c3 = c2 .before in
     let c6 = c3 .before .before .before in
     ⊎-elim
-    (λ w. rw (w .5, w .6) (list-yes (c6 .args .cells .now) _ _ _ _ _ _ _ _ _ (c2 .loop-test .taken) _ _ (w .2 .kept .0) (c3 .loop .inv) (w .0 .taken) (w .2 .ensures)))
+    (λ w. rw (w .5, w .6)
+    (list-yes (c6 .args .cells .now) _ _ _ _ _ _ _ _ _ (c2 .loop-test .taken) _ _ (w .2 .kept .0) (c3 .loop .inv) (w .0 .taken) (w .2 .ensures)))
     (λ w. rw (w .1, w .2) (list-no (c6 .args .cells .now) _ _ _ _ _ _ _ _ _ (c2 .loop-test .taken) (c3 .loop .inv) (w .0 .left))) (c .if1 .came)
 
 same-length : tie.Need-same-length Inv-loop μ-loop

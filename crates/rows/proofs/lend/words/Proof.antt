@@ -7,7 +7,8 @@ use Rattle.rows.proofs.lend.words.Statement.{statement}
 use Rattle.rows.proofs.lend.words.Tie as tie
 
 abbrev Inv-loop : tie.InvT-loop
-Inv-loop t cells k ends₀ occurrences₀ counts₀ width e₀ o₀ c₀ j₀ ends occurrences counts e o c j = Wording (tableIn t cells) k ends₀ occurrences₀ counts₀ ends occurrences counts e o c j
+Inv-loop t cells k ends₀ occurrences₀ counts₀ width e₀ o₀ c₀ j₀ ends occurrences counts e o c j =
+    Wording (tableIn t cells) k ends₀ occurrences₀ counts₀ ends occurrences counts e o c j
 
 abbrev μ-loop : tie.MeasureT-loop
 μ-loop t cells k ends₀ occurrences₀ counts₀ width e₀ o₀ c₀ j₀ ends occurrences counts e o c j = k - j
@@ -79,7 +80,8 @@ loop-again c =
     let c12 = c10 .before .before in
     let c13 = c12 .before in
     let c19 = c13 .before .before .before .before .before .before in
-    word-step _ _ _ _ _ _ _ _ _ _ _ _ (c13 .loop .inv) (c19 .pre) (c12 .loop-test .taken) _ _ (c10 .list .ensures) _ _ _ _ (c6 .put-word .kept .0) (c10 .list .kept .1 .1 .1 .1 .0) (c2 .column .kept .1 .1 .1 .1 .0) (c6 .put-word .ensures) (c2 .column .ensures)
+    word-step _ _ _ _ _ _ _ _ _ _ _ _ (c13 .loop .inv) (c19 .pre) (c12 .loop-test .taken) _ _ (c10 .list .ensures) _ _ _ _
+    (c6 .put-word .kept .0) (c10 .list .kept .1 .1 .1 .1 .0) (c2 .column .kept .1 .1 .1 .1 .0) (c6 .put-word .ensures) (c2 .column .ensures)
 
 same-length : tie.Need-same-length Inv-loop μ-loop
 same-length c = c .before .loop .inv .longE

@@ -78,7 +78,8 @@ slice-aggregate-put-valid-3 : tie.Need-slice-aggregate-put-valid-3
 slice-aggregate-put-valid-3 c =
     let c8 = c .before .before .before .before .before .before .before .before in
     let c18 = c8 .before .before .before .before .before .before .before .before .before .before in
-    sym (length-take-le _ _ (omega (arith, answers-product (tableIn (c18 .args .t) (c18 .args .cells .now)) (c18 .pre) (c18 .args .t .p + c18 .args .t .q) (omega arith), c8 .words .kept .1 .1 .1 .1 .1 .0)))
+    sym (length-take-le _ _
+    (omega (arith, answers-product (tableIn (c18 .args .t) (c18 .args .cells .now)) (c18 .pre) (c18 .args .t .p + c18 .args .t .q) (omega arith), c8 .words .kept .1 .1 .1 .1 .1 .0)))
 
 put-valid-requires : tie.Need-put-valid-requires
 put-valid-requires c κs = tt

@@ -10,7 +10,9 @@ use Rattle.rows.proofs.search.put_positive.Statement.{statement}
 use Rattle.rows.proofs.search.put_positive.Tie as tie
 
 mul-m : tie.Need-mul-m
-mul-m c = omega (arith, answers-product (tableIn (c .before .before .before .before .before .args .t) (c .before .before .before .before .before .args .cells .now)) (c .before .before .before .before .before .pre) (c .before .before .before .before .before .args .t .p) (omega arith))
+mul-m c =
+    let c5 = c .before .before .before .before .before in
+    omega (arith, answers-product (tableIn (c5 .args .t) (c5 .args .cells .now)) (c5 .pre) (c5 .args .t .p) (omega arith))
 
 slice-aggregate-words : tie.Need-slice-aggregate-words
 slice-aggregate-words c = refl
@@ -65,7 +67,8 @@ slice-aggregate-put-pair-3 : tie.Need-slice-aggregate-put-pair-3
 slice-aggregate-put-pair-3 c =
     let c6 = c .before .before .before .before .before .before in
     let c15 = c6 .before .before .before .before .before .before .before .before .before in
-    sym (length-take-le _ _ (omega (arith, answers-product (tableIn (c15 .args .t) (c15 .args .cells .now)) (c15 .pre) (c15 .args .t .p) (omega arith), c6 .words .kept .1 .1 .1 .1 .1 .0)))
+    sym (length-take-le _ _
+    (omega (arith, answers-product (tableIn (c15 .args .t) (c15 .args .cells .now)) (c15 .pre) (c15 .args .t .p) (omega arith), c6 .words .kept .1 .1 .1 .1 .1 .0)))
 
 put-pair-requires : tie.Need-put-pair-requires
 put-pair-requires c κs = tt
