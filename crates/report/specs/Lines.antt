@@ -3,6 +3,7 @@
 --   answerText name r l     == the lines of a search: one for each node of l; one with an empty node field where l is empty
 --   listedBy r l            == the nodes listed under the reply r: none under a refusal
 --   elcaText I, slcaText I, validText I  == the lines of a search on the index I
+--   pairText I              == those of ELCA and then those of SLCA
 -- Letters: I index; r reply, l nodes, v node. Laws are in proofs/. Assumes nothing.
 use Prim.Native.Nat.{ℕ}
 use mathlib.Core.List.{List, [], _∷_, _++_}
@@ -53,3 +54,6 @@ slcaText I = let r = slcaReply I lentWork lentOut in answerText (bytes "slca") r
 
 unfoldable pub validText : Index → List ℕ
 validText I = let r = validReply I lentWork lentOut in answerText (bytes "valid") r (listedBy r (outOf I (isValid I)))
+
+abbrev pub pairText : Index → List ℕ
+pairText I = elcaText I ++ slcaText I

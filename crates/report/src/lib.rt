@@ -1,6 +1,6 @@
 // The output of the table program (01, "The table program"): lines of search name, refusal number, place and node.
 // Each function writes to the front of a lent buffer, behind what is there up to a place, and returns the next place; what does not fit is not written.
-// `put_elca`, `put_slca` and `put_valid` run a search on a lent index and write its lines; `put_bare` writes one line without a node.
+// `put_pair` runs ELCA and SLCA on a lent index and writes their lines, `put_valid` valid SLCA; `put_bare` writes one line without a node.
 mod lines;
 
 use index::Reply;
@@ -9,7 +9,7 @@ use lines::put_line;
 ghost use mathlib.Core.List.{[]};
 ghost use Rattle.index.specs.Contracts.{lent};
 ghost use Rattle.text.specs.Buffers.{Adds};
-ghost use Rattle.report.specs.Lines.{lineText, elcaText, slcaText, validText};
+ghost use Rattle.report.specs.Lines.{lineText, elcaText, slcaText, pairText, validText};
 
 // One line with an empty node field.
 pub fn put_bare(out: &mut [u8], at: usize, name: &[u8], reply: Reply) -> usize
@@ -19,7 +19,7 @@ pub fn put_bare(out: &mut [u8], at: usize, name: &[u8], reply: Reply) -> usize
 }
 
 // The lines of ELCA.
-pub fn put_elca(
+fn put_elca(
     parents: &[u32],
     tags: &[u32],
     p: u32,
@@ -51,7 +51,7 @@ pub fn put_elca(
 }
 
 // The lines of SLCA.
-pub fn put_slca(
+fn put_slca(
     parents: &[u32],
     tags: &[u32],
     p: u32,
@@ -78,6 +78,42 @@ pub fn put_slca(
         &mut out,
     );
     put_answer(output, at, b"slca", reply, &out)
+}
+
+// The lines of ELCA and of SLCA, on one index.
+pub fn put_pair(
+    parents: &[u32],
+    tags: &[u32],
+    p: u32,
+    ends: &[u32],
+    occurrences: &[u32],
+    counts: &[u32],
+    output: &mut [u8],
+    at: usize,
+) -> usize
+    ensures { λ r. ⌜ Adds (pairText (lent (now (parents .entry)) (now (tags .entry)) p 0 (now (ends .entry)) (now (occurrences .entry))
+        (now (counts .entry)))) (now (output .entry)) at (now (output .exit)) r ⌝ }
+{
+    let next = put_elca(
+        parents,
+        tags,
+        p,
+        ends,
+        occurrences,
+        counts,
+        &mut *output,
+        at,
+    );
+    put_slca(
+        parents,
+        tags,
+        p,
+        ends,
+        occurrences,
+        counts,
+        &mut *output,
+        next,
+    )
 }
 
 // The lines of valid SLCA.

@@ -10,7 +10,7 @@ use Rattle.text.specs.Buffers.{front}
 use Rattle.sheet.specs.declared.Shape.{Shape}
 use Rattle.sheet.specs.Table.{Table, width}
 use Rattle.rows.specs.Lent.{listsOf, endOf, countOf}
-use Rattle.report.specs.Lines.{elcaText, slcaText, validText}
+use Rattle.report.specs.Lines.{pairText, validText}
 
 -- ---- the index that is lent
 abbrev pub tableIn : Shape → List ℕ → Table
@@ -46,9 +46,6 @@ pub record AnswersPre (T : Table) : Type 0 where
 abbrev pub lentWords : Table → List ℕ → List ℕ → ℕ → ℕ → Index
 lentWords T P S p q = lent P S p q (tabulate (p + q) (endOf T)) (listsOf T (p + q)) (tabulate ((p + q) * T .nodes) (countOf T))
 
--- The lines of ELCA and SLCA, and those of all three searches.
-abbrev pub pairText : Index → List ℕ
-pairText I = elcaText I ++ slcaText I
-
+-- The lines of all three searches.
 abbrev pub threeText : Table → List ℕ → List ℕ → List ℕ
 threeText T P S = pairText (lentWords T P S (T .positive) 0) ++ validText (lentWords T P S (T .positive) (T .negative))

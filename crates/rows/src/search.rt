@@ -1,51 +1,13 @@
 // The searches over a table. What is lent to them is long enough for 256 nodes and 8 words.
 use crate::lend::column;
 use crate::lend::words;
-use report::put_elca;
-use report::put_slca;
+use report::put_pair;
 use report::put_valid;
 use sheet::Shape;
-ghost use Rattle.index.specs.Contracts.{lent};
 ghost use Rattle.text.specs.Buffers.{Adds};
-ghost use Rattle.report.specs.Lines.{validText};
+ghost use Rattle.report.specs.Lines.{pairText, validText};
 ghost use Rattle.rows.specs.Output.{answersText};
-ghost use Rattle.rows.specs.Contracts.{tableIn, lentWords, pairText, AnswersPre};
-
-// The lines of ELCA and of SLCA, on one index.
-fn put_pair(
-    parents: &[u32],
-    tags: &[u32],
-    p: u32,
-    ends: &[u32],
-    occurrences: &[u32],
-    counts: &[u32],
-    output: &mut [u8],
-    at: usize,
-) -> usize
-    ensures { λ r. ⌜ Adds (pairText (lent (now (parents .entry)) (now (tags .entry)) p 0 (now (ends .entry)) (now (occurrences .entry))
-        (now (counts .entry)))) (now (output .entry)) at (now (output .exit)) r ⌝ }
-{
-    let next = put_elca(
-        parents,
-        tags,
-        p,
-        ends,
-        occurrences,
-        counts,
-        &mut *output,
-        at,
-    );
-    put_slca(
-        parents,
-        tags,
-        p,
-        ends,
-        occurrences,
-        counts,
-        &mut *output,
-        next,
-    )
-}
+ghost use Rattle.rows.specs.Contracts.{tableIn, lentWords, AnswersPre};
 
 // ELCA and SLCA run on the positive words.
 fn put_positive(

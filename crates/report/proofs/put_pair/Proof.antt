@@ -1,8 +1,8 @@
--- `rows::search::put_pair` meets its contract: one addition after the other.
+-- `report::put_pair` meets its contract: one addition after the other.
 use mathlib.Core.Path.{_∙_}
 use Rattle.text.proofs.Laws.Buffers.{adds-append}
-use Rattle.rows.proofs.search.put_pair.Statement.{statement}
-use Rattle.rows.proofs.search.put_pair.Tie as tie
+use Rattle.report.proofs.put_pair.Statement.{statement}
+use Rattle.report.proofs.put_pair.Tie as tie
 
 put-elca-requires : tie.Need-put-elca-requires
 put-elca-requires c κs = tt
