@@ -18,6 +18,7 @@ use lib.Seq.{getD-set-same, getD-set-other}
 use Rattle.seq.proofs.Laws.Bools.{bool-cases, or-left, or-right, or-cases}
 use Rattle.seq.proofs.Laws.Numbers.{less-or}
 use Rattle.seq.proofs.Laws.Below.{every-at, every-of, every-fails}
+use Rattle.seq.proofs.Laws.Loops.{filled-more}
 use Rattle.tree.specs.Tree.{parent}
 use Rattle.tree.specs.Plain.{Down}
 use Rattle.tree.proofs.Laws.Children.{child-of, parent-less}
@@ -123,15 +124,9 @@ module _ (p t w₀ : List ℕ) (pre : TreePre p t (codes p t) w₀) where
       some = omega arith;
       within = omega arith;
       long = length-set w v x ∙ s .long;
-      done = λ u l. ⊎-elim (λ q. getD-set-other w v u x 0 (apart u q) ∙ s .done u q) (λ q. here u (le-antisymm (omega arith) q)) (less-or u v);
+      done = filled-more (closest p t) w v x (s .done) pass-place e;
       rest = λ u l k. getD-set-other w v u x 0 (λ (q : u ≡ v). omega arith) ∙ s .rest u (omega arith) k;
     }
-      where
-        apart : (u : ℕ) → u < v → u ≡ v → ⊥
-        apart u l q = omega arith
-
-        here : (u : ℕ) → u ≡ v → getD (set w v x) u 0 ≡ closest p t u
-        here u q = ap (λ (z : ℕ). getD (set w v x) z 0) q ∙ getD-set-same w v x 0 pass-place ∙ e ∙ ap (closest p t) (sym q)
 
     -- b says whether v is an entity, as the code has it.
     is-entity : (b : Bool) → b ≡ entityBy (getD t v 0) (getD w v 0) → b ≡ entity p t v

@@ -18,8 +18,8 @@ use lib.ListN.{length, getD, set, take, drop, length-set}
 use lib.Seq.{getD-set-same, getD-set-other, take-all}
 use Rattle.seq.specs.Lists.{someOf, EachBelow}
 use Rattle.seq.proofs.Laws.Bools.{bool-cases}
-use Rattle.seq.proofs.Laws.Numbers.{less-or}
 use Rattle.seq.proofs.Laws.Lists.{someOf-ext, someOf-take-suc}
+use Rattle.seq.proofs.Laws.Loops.{filled-more}
 use Rattle.tree.specs.Tree.{parent}
 use Rattle.tree.specs.Plain.{Down}
 use Rattle.tree.proofs.Laws.Children.{parent-less}
@@ -102,20 +102,14 @@ module _ (p w₀ : List ℕ) (pre : PointPre p w₀) (w : List ℕ) (v : ℕ) (s
   pointing-step a r ea e = record {
     within = omega arith;
     long = length-set w v r ∙ s .long;
-    done = λ u l. ⊎-elim (λ q. getD-set-other w v u r 0 (apart u q) ∙ s .done u q) (λ q. here u (le-antisymm (omega arith) q)) (less-or u v);
+    done = filled-more (topBy p w₀) w v r (s .done) point-place made;
     rest = λ u l. getD-set-other w v u r 0 (λ (q : u ≡ v). omega arith) ∙ s .rest u (omega arith);
   }
     where
-      apart : (u : ℕ) → u < v → u ≡ v → ⊥
-      apart u l q = omega arith
-
       made : r ≡ topBy p w₀ v
       made =
           e ∙ ap₂ (λ (x y : ℕ). topHere x y v a (length p)) (s .rest v (omega arith)) (s .rest (length p + v) (omega arith))
           ∙ ap (λ (z : ℕ). topHere (getD w₀ v 0) (getD w₀ (length p + v) 0) v z (length p)) ea ∙ top-down p w₀ (pre .down) v h w (s .done)
-
-      here : (u : ℕ) → u ≡ v → getD (set w v r) u 0 ≡ topBy p w₀ u
-      here u q = ap (λ (z : ℕ). getD (set w v r) z 0) q ∙ getD-set-same w v r 0 point-place ∙ made ∙ ap (topBy p w₀) (sym q)
 
 pub pointing-end : (p w₀ w : List ℕ) (v : ℕ) → Pointing p w₀ w v → length p ≤ v → Pointed p w₀ w
 pointing-end p w₀ w v s h = record { long = s .long; holds = λ u l. s .done u (omega arith) }
@@ -314,17 +308,9 @@ module _ (n k : ℕ) (w₀ w : List ℕ) (v : ℕ) (pre : SettlePre n w₀) (s :
   settling-step r e = record {
     within = omega arith;
     long = length-set w v r ∙ s .long;
-    done = λ a l. ⊎-elim (λ q. getD-set-other w v a r 0 (apart a q) ∙ s .done a q) (λ q. here a (le-antisymm (omega arith) q)) (less-or a v);
+    done = filled-more (λ u. flagHere (getD w₀ (n + u) 0) k) w v r (s .done) settle-place (e ∙ ap (λ (y : ℕ). flagHere y k) (s .rest (n + v) (omega arith)));
     rest = λ a l. getD-set-other w v a r 0 (λ (q : a ≡ v). omega arith) ∙ s .rest a (omega arith);
   }
-    where
-      apart : (a : ℕ) → a < v → a ≡ v → ⊥
-      apart a l q = omega arith
-
-      here : (a : ℕ) → a ≡ v → getD (set w v r) a 0 ≡ flagHere (getD w₀ (n + a) 0) k
-      here a q =
-          ap (λ (z : ℕ). getD (set w v r) z 0) q ∙ getD-set-same w v r 0 settle-place ∙ e
-          ∙ ap (λ (y : ℕ). flagHere y k) (s .rest (n + v) (omega arith)) ∙ ap (λ (z : ℕ). flagHere (getD w₀ (n + z) 0) k) (sym q)
 
 pub settling-end : (n k : ℕ) (w₀ w : List ℕ) (v : ℕ) → Settling n k w₀ w v → n ≤ v → Settled n k w₀ w
 settling-end n k w₀ w v s h = record { long = s .long; holds = λ u l. s .done u (omega arith) }
