@@ -19,8 +19,8 @@ use Rattle.index.specs.Replies.{accepted, ROOM, totalled, keptOr}
 use Rattle.index.proofs.Laws.Replies.{kept-accepted, kept-refused}
 use Rattle.answers.specs.Searches.{outRow}
 use Rattle.listing.specs.Listing.{flagged, flaggedRows, flaggedReply, flaggedOut, Listed}
-use Rattle.elca.specs.Rows.{flagAt, ownDiff, ownRows}
-use Rattle.elca.specs.Contracts.{Answered, bothFit, PutPre, OwnPre}
+use Rattle.elca.specs.Inner.Rows.{flagAt, ownDiff, ownRows}
+use Rattle.elca.specs.Inner.Steps.{Answered, bothFit, PutPre, OwnPre}
 
 module _ (n k : ℕ) (cs w : List ℕ) (pre : PutPre n k cs w) where
   -- The flags, as the code takes them out of work.

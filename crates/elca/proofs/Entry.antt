@@ -31,8 +31,9 @@ use Rattle.answers.proofs.Laws.Engine.{elca-by}
 use Rattle.answers.proofs.Laws.Counts.{countAt, lists-below, count-right, full-right, held-right, held-below, children-below}
 use Rattle.full.specs.Full.{fullBy}
 use Rattle.full.proofs.Laws.{fullBy-is}
-use Rattle.elca.specs.Rows.{heldBy}
-use Rattle.elca.specs.Contracts.{Searched, Answered, heldFull, elcaBy, ownBy, SearchPre, Found}
+use Rattle.elca.specs.Inner.Rows.{heldBy}
+use Rattle.elca.specs.Contracts.{ElcaSearched}
+use Rattle.elca.specs.Inner.Steps.{Answered, heldFull, elcaBy, ownBy, SearchPre, Found}
 use Rattle.elca.proofs.Searching.{answered-ext}
 
 -- ---- by counts, and by 01's definitions
@@ -61,7 +62,7 @@ module _ (I : Index) (R : Right I) (some : I .positive ≤ length (I .ends)) whe
 -- ---- the call
 module _ (I : Index) (w o s : List ℕ) where
   -- A refusal before the search keeps out and own.
-  refused-keeps : (r : Reply) → elcaReply I w o s ≡ r → (r .refusal ≡ accepted → ⊥) → (w′ : List ℕ) → w′ ≡ workAfter 0 I w → Searched I w o s r w′ o s
+  refused-keeps : (r : Reply) → elcaReply I w o s ≡ r → (r .refusal ≡ accepted → ⊥) → (w′ : List ℕ) → w′ ≡ workAfter 0 I w → ElcaSearched I w o s r w′ o s
   unfolding elcaOut elcaOwn
   refused-keeps r e ne w′ q = record {
     reply = sym e;
@@ -70,7 +71,7 @@ module _ (I : Index) (w o s : List ℕ) where
     own = sym (kept-refused (elcaReply I w o s) _ s (λ z. ne (sym (ap (λ (x : Reply). x .refusal) e) ∙ z)));
   }
 
-  pub elca-negative : (I .negative ≡ 0 → ⊥) → Searched I w o s (refused SIZE 0) w o s
+  pub elca-negative : (I .negative ≡ 0 → ⊥) → ElcaSearched I w o s (refused SIZE 0) w o s
   unfolding elcaReply
   elca-negative ne =
       refused-keeps (refused SIZE 0) (checked-size 0 I (length w) _ (negative-size I (length w) ne)) (λ z. omega arith) w (sym (work-kept 0 I w (negative-size I (length w) ne)))
@@ -79,7 +80,7 @@ module _ (I : Index) (w o s : List ℕ) where
     pub check-length : length w₁ ≡ length w
     check-length = ap length (c .work) ∙ work-length 8 I w
 
-    pub elca-refused : (r .refusal ≡ accepted → ⊥) → Searched I w o s r w₁ o s
+    pub elca-refused : (r .refusal ≡ accepted → ⊥) → ElcaSearched I w o s r w₁ o s
     unfolding elcaReply
     elca-refused ne =
         refused-keeps r
@@ -170,7 +171,7 @@ module _ (I : Index) (w o s : List ℕ) where
             ∙ ap (λ (x : ℕ). totalled (cond (leb (length (listed (nodes I) (isElca I))) (length o) && leb x (length s)) accepted ROOM) (length (listed (nodes I) (isElca I)))) (sym own-length)
             ∙ sym (none-checked I z (length w) _ ∙ checked-accepted I w _ (ap (λ (x : Reply). x .refusal) (sym (c .reply)) ∙ e))
 
-        pub elca-found : Searched I w o s r′ (w₂ ++ drop used w₁) o′ s′
+        pub elca-found : ElcaSearched I w o s r′ (w₂ ++ drop used w₁) o′ s′
         unfolding elcaOut elcaOwn outOf ownOf
         elca-found = record {
           reply = same;
@@ -180,6 +181,6 @@ module _ (I : Index) (w o s : List ℕ) where
         }
 
 -- ---- no second outcome fits
-pub searched-unique : (I : Index) (w o s : List ℕ) (r r′ : Reply) (w′ w″ o′ o″ s′ s″ : List ℕ) →
-    Searched I w o s r w′ o′ s′ → Searched I w o s r′ w″ o″ s″ → (r ≡ r′) × (w′ ≡ w″) × (o′ ≡ o″) × (s′ ≡ s″)
-searched-unique I w o s r r′ w′ w″ o′ o″ s′ s″ a b = (a .reply ∙ sym (b .reply), a .work ∙ sym (b .work), a .out ∙ sym (b .out), a .own ∙ sym (b .own))
+pub elca-unique : (I : Index) (w o s : List ℕ) (r r′ : Reply) (w′ w″ o′ o″ s′ s″ : List ℕ) →
+    ElcaSearched I w o s r w′ o′ s′ → ElcaSearched I w o s r′ w″ o″ s″ → (r ≡ r′) × (w′ ≡ w″) × (o′ ≡ o″) × (s′ ≡ s″)
+elca-unique I w o s r r′ w′ w″ o′ o″ s′ s″ a b = (a .reply ∙ sym (b .reply), a .work ∙ sym (b .work), a .out ∙ sym (b .out), a .own ∙ sym (b .own))

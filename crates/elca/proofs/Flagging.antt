@@ -11,9 +11,9 @@ use lib.ListN.{length, getD, set, length-set}
 use lib.Seq.{getD-set-same, getD-set-other}
 use Rattle.seq.specs.Below.{everyBelow}
 use Rattle.seq.proofs.Laws.Below.{every-ext}
-use Rattle.index.specs.Contracts.{cell}
-use Rattle.elca.specs.Rows.{flagAt, aboveHeld, Rows}
-use Rattle.elca.specs.Contracts.{Grid, NodePre}
+use Rattle.index.specs.Inner.{cell}
+use Rattle.elca.specs.Inner.Rows.{flagAt, aboveHeld, SumsAndFlags}
+use Rattle.elca.specs.Inner.Steps.{Grid, NodePre}
 use Rattle.elca.proofs.Laws.{flag-in, cell-keeps}
 
 -- ---- one node
@@ -66,7 +66,7 @@ module _ (n k : ℕ) (cs w₀ w : List ℕ) (v : ℕ) (g₀ : Grid n k cs w₀) 
   }
 
 pub flagging-end : (n k : ℕ) (cs w₀ w : List ℕ) (v : ℕ) → Grid n k cs w₀ → Flagging n k cs w₀ w v → n ≤ v →
-    Rows n k (cell k w₀) (λ v. cond (aboveHeld cs n k w₀ v) 1 0) w
+    SumsAndFlags n k (cell k w₀) (λ v. cond (aboveHeld cs n k w₀ v) 1 0) w
 flagging-end n k cs w₀ w v g s h = record {
   long = s .long ∙ g .long;
   cells = s .cells;

@@ -19,10 +19,10 @@ use Rattle.seq.proofs.Laws.Numbers.{less-or, row-next}
 use Rattle.seq.proofs.Laws.Sums.{sum-zero, sum-suc, sum-le, sum-mono}
 use Rattle.tree.specs.Tree.{parent, child}
 use Rattle.tree.proofs.Laws.Children.{child-root, child-of, parent-less}
-use Rattle.index.specs.Contracts.{cell}
+use Rattle.index.specs.Inner.{cell}
 use Rattle.index.proofs.Laws.Cells.{cell-add}
-use Rattle.elca.specs.Rows.{flagAt, heldBy, Rows}
-use Rattle.elca.specs.Contracts.{Grid, GivePre, given, TakePre, isFlagged}
+use Rattle.elca.specs.Inner.Rows.{flagAt, heldBy, SumsAndFlags}
+use Rattle.elca.specs.Inner.Steps.{Grid, GivePre, given, TakeOffPre, isFlagged}
 use Rattle.elca.proofs.Laws.{sum-in, count-in, flag-keeps}
 
 -- ---- from one child to its parent
@@ -30,7 +30,7 @@ use Rattle.elca.proofs.Laws.{sum-in, count-in, flag-keeps}
 pub record Giving (n k c up : ℕ) (cs w₀ w : List ℕ) (j at : ℕ) : Type 0 where
   pub words : j ≤ k
   pub place : at ≡ j * n + c
-  pub rows : Rows n k (λ v i. cell k w₀ v i + cond (eqb v up && ltb i j) (getD cs (i * n + c) 0) 0) (flagAt n k w₀) w
+  pub rows : SumsAndFlags n k (λ v i. cell k w₀ v i + cond (eqb v up && ltb i j) (getD cs (i * n + c) 0) 0) (flagAt n k w₀) w
 
 pub giving-start : (n k c up : ℕ) (cs w : List ℕ) → GivePre n k c up cs w → Giving n k c up cs w w 0 c
 giving-start n k c up cs w pre = record {
@@ -87,7 +87,7 @@ module _ (n k c up : ℕ) (cs w₀ w : List ℕ) (j at : ℕ) (pre : GivePre n k
           (eq-or-lt-of-le q))
           (less-or i j)
 
-pub giving-end : (n k c up : ℕ) (cs w₀ w : List ℕ) (j at : ℕ) → Giving n k c up cs w₀ w j at → k ≤ j → Rows n k (given cs n k c up w₀) (flagAt n k w₀) w
+pub giving-end : (n k c up : ℕ) (cs w₀ w : List ℕ) (j at : ℕ) → Giving n k c up cs w₀ w j at → k ≤ j → SumsAndFlags n k (given cs n k c up w₀) (flagAt n k w₀) w
 giving-end n k c up cs w₀ w j at s h = record {
   long = s .rows .long;
   cells = λ v i a b.
@@ -105,9 +105,9 @@ heldTo p cs k w₀ c v j = sumBelow c λ i. cond (child p v i && isFlagged (leng
 pub record Taking (p cs : List ℕ) (k : ℕ) (w₀ w : List ℕ) (c : ℕ) : Type 0 where
   pub within : c ≤ length p
   pub past : 0 < c
-  pub rows : Rows (length p) k (heldTo p cs k w₀ c) (flagAt (length p) k w₀) w
+  pub rows : SumsAndFlags (length p) k (heldTo p cs k w₀ c) (flagAt (length p) k w₀) w
 
-pub taking-start : (p cs : List ℕ) (k : ℕ) (w : List ℕ) → TakePre p cs k w → Taking p cs k w w 1
+pub taking-start : (p cs : List ℕ) (k : ℕ) (w : List ℕ) → TakeOffPre p cs k w → Taking p cs k w w 1
 taking-start p cs k w pre = record {
   within = pre .nodes;
   past = omega arith;
@@ -118,7 +118,7 @@ taking-start p cs k w pre = record {
   };
 }
 
-module _ (p cs : List ℕ) (k : ℕ) (w₀ w : List ℕ) (c : ℕ) (pre : TakePre p cs k w₀) (s : Taking p cs k w₀ w c) (l : c < length p) where
+module _ (p cs : List ℕ) (k : ℕ) (w₀ w : List ℕ) (c : ℕ) (pre : TakeOffPre p cs k w₀) (s : Taking p cs k w₀ w c) (l : c < length p) where
   grid₂ : Grid (length p) k cs w
   grid₂ = record { counted = pre .grid .counted; long = s .rows .long; small = pre .grid .small }
 
@@ -185,7 +185,7 @@ module _ (p cs : List ℕ) (k : ℕ) (w₀ w : List ℕ) (c : ℕ) (pre : TakePr
             fewer true b y = cond-le b y
             fewer false b y = zero-le
 
-    pub taking-step : (w′ : List ℕ) → Rows (length p) k (given cs (length p) k c (parent p c) w) (flagAt (length p) k w) w′ → Taking p cs k w₀ w′ (c + 1)
+    pub taking-step : (w′ : List ℕ) → SumsAndFlags (length p) k (given cs (length p) k c (parent p c) w) (flagAt (length p) k w) w′ → Taking p cs k w₀ w′ (c + 1)
     taking-step w′ r = record {
       within = omega arith;
       past = omega arith;
@@ -197,7 +197,7 @@ module _ (p cs : List ℕ) (k : ℕ) (w₀ w : List ℕ) (c : ℕ) (pre : TakePr
     }
 
 pub taking-end : (p cs : List ℕ) (k : ℕ) (w₀ w : List ℕ) (c : ℕ) → Taking p cs k w₀ w c → length p ≤ c →
-    Rows (length p) k (heldBy p cs (isFlagged (length p) k w₀)) (flagAt (length p) k w₀) w
+    SumsAndFlags (length p) k (heldBy p cs (isFlagged (length p) k w₀)) (flagAt (length p) k w₀) w
 unfolding heldBy
 taking-end p cs k w₀ w c s h = record {
   long = s .rows .long;

@@ -7,10 +7,10 @@ use native.Mathlib.Omega.{arith}
 use lib.ListN.{length, set}
 use lib.Seq.{getD-set-other}
 use Rattle.seq.proofs.Laws.Numbers.{row-le}
-use Rattle.index.specs.Contracts.{cell}
+use Rattle.index.specs.Inner.{cell}
 use Rattle.index.proofs.Laws.Cells.{cell-below}
-use Rattle.elca.specs.Rows.{flagAt}
-use Rattle.elca.specs.Contracts.{Grid}
+use Rattle.elca.specs.Inner.Rows.{flagAt}
+use Rattle.elca.specs.Inner.Steps.{Grid}
 
 -- ---- where things are
 module _ (n k : ℕ) (cs w : List ℕ) (g : Grid n k cs w) where

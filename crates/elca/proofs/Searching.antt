@@ -21,14 +21,14 @@ use Rattle.seq.proofs.Laws.Memory.{length-over}
 use Rattle.tree.specs.Tree.{child}
 use Rattle.index.specs.declared.Reply.{Reply}
 use Rattle.index.specs.Replies.{accepted, ROOM, totalled, keptOr}
-use Rattle.index.specs.Contracts.{cell}
+use Rattle.index.specs.Inner.{cell}
 use Rattle.index.proofs.Laws.Replies.{kept-accepted, kept-refused}
 use Rattle.index.proofs.Laws.Cells.{cell-below}
 use Rattle.answers.specs.Searches.{outRow}
 use Rattle.full.specs.Full.{fullBy, fullFlags}
 use Rattle.full.proofs.Laws.{fullFlags-at, length-fullFlags}
-use Rattle.elca.specs.Rows.{flagAt, heldBy, aboveHeld, ownDiff, Rows}
-use Rattle.elca.specs.Contracts.{Grid, TakePre, isFlagged, bothFit, Answered, PutPre, heldFull, elcaBy, SearchPre, Found}
+use Rattle.elca.specs.Inner.Rows.{flagAt, heldBy, aboveHeld, ownDiff, SumsAndFlags}
+use Rattle.elca.specs.Inner.Steps.{Grid, TakeOffPre, isFlagged, bothFit, Answered, PutPre, heldFull, elcaBy, SearchPre, Found}
 
 -- ---- answers by one test and one count, or by equal ones
 module _ (n k : ℕ) (f f′ : ℕ → Bool) (g g′ : ℕ → ℕ → ℕ) (ef : (v : ℕ) → v < n → f v ≡ f′ v) (eg : (v j : ℕ) → v < n → j < k → g v j ≡ g′ v j) where
@@ -105,7 +105,7 @@ module _ (p cs : List ℕ) (k : ℕ) (w : List ℕ) (pre : SearchPre p cs k w) w
     front-long : length (take (n * k) w) ≡ n * k
     front-long = length-take-le (n * k) w (omega (arith, long₀))
 
-    rows₁ : Rows n k (λ v j. 0) bit w₁
+    rows₁ : SumsAndFlags n k (λ v j. 0) bit w₁
     rows₁ = record {
       long = same-len-mid (n * k) (n * k + n - n * k) w fl (ap length fl-is ∙ length-fullFlags cs n ∙ sym mid-long) ∙ long₀;
       cells = λ v j a b.
@@ -120,7 +120,7 @@ module _ (p cs : List ℕ) (k : ℕ) (w : List ℕ) (pre : SearchPre p cs k w) w
     grid-of : (x : List ℕ) → length x ≡ n * k + n → Grid n k cs x
     grid-of x e = record { counted = pre .counted; long = e; small = small }
 
-    pub take-pre : TakePre p cs k w₁
+    pub take-pre : TakeOffPre p cs k w₁
     take-pre = record {
       nodes = pre .nodes;
       grid = grid-of w₁ (rows₁ .long);
@@ -141,7 +141,7 @@ module _ (p cs : List ℕ) (k : ℕ) (w : List ℕ) (pre : SearchPre p cs k w) w
     held-full v j = sum-ext n _ _ (λ c l. ap (λ (b : Bool). cond (child p v c && b) (getD cs (j * n + c) 0) 0) (flag-full c l))
 
     -- After the sums.
-    module _ (w₂ : List ℕ) (r₂ : Rows n k (heldBy p cs (isFlagged n k w₁)) (flagAt n k w₁) w₂) where
+    module _ (w₂ : List ℕ) (r₂ : SumsAndFlags n k (heldBy p cs (isFlagged n k w₁)) (flagAt n k w₁) w₂) where
       pub above-pre : Grid n k cs w₂
       above-pre = grid-of w₂ (r₂ .long)
 
@@ -150,7 +150,7 @@ module _ (p cs : List ℕ) (k : ℕ) (w : List ℕ) (pre : SearchPre p cs k w) w
       above-is v l = every-ext k _ _ (λ j h. ap (λ (x : ℕ). ltb x (getD cs (j * n + v) 0)) (r₂ .cells v j l h ∙ held-full v j))
 
       -- After the answers' flags.
-      module _ (w₃ : List ℕ) (r₃ : Rows n k (cell k w₂) (λ v. cond (aboveHeld cs n k w₂ v) 1 0) w₃) where
+      module _ (w₃ : List ℕ) (r₃ : SumsAndFlags n k (cell k w₂) (λ v. cond (aboveHeld cs n k w₂ v) 1 0) w₃) where
         held-here : (v j : ℕ) → v < n → j < k → cell k w₃ v j ≡ heldFull p cs k v j
         held-here v j a b = r₃ .cells v j a b ∙ r₂ .cells v j a b ∙ held-full v j
 

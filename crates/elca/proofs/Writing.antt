@@ -18,9 +18,9 @@ use Rattle.seq.proofs.Laws.Numbers.{row-next}
 use Rattle.seq.proofs.Laws.Gather.{length-tabulate, gather-zero, gather-yes, gather-no, gather-le}
 use Rattle.seq.proofs.Laws.Memory.{over-nil, length-over}
 use Rattle.seq.proofs.Laws.Loops.{Filling, filling-start, filling-step, filling-end}
-use Rattle.index.specs.Contracts.{cell}
-use Rattle.elca.specs.Rows.{flagAt, ownDiff, ownRows}
-use Rattle.elca.specs.Contracts.{RowPre, OwnPre}
+use Rattle.index.specs.Inner.{cell}
+use Rattle.elca.specs.Inner.Rows.{flagAt, ownDiff, ownRows}
+use Rattle.elca.specs.Inner.Steps.{OwnRowPre, OwnPre}
 use Rattle.elca.proofs.Laws.{sum-in, count-in}
 
 -- ---- one node
@@ -31,7 +31,7 @@ pub record OwnRow (n k v : ℕ) (cs w d row : List ℕ) (j at : ℕ) : Type 0 wh
 pub own-start : (n k v : ℕ) (cs w d : List ℕ) → OwnRow n k v cs w d d 0 v
 own-start n k v cs w d = record { place = omega (arith, zero-mul n); filled = filling-start (ownDiff cs n k w v) d }
 
-module _ (n k v : ℕ) (cs w d row : List ℕ) (j at : ℕ) (pre : RowPre n k v cs w d) (s : OwnRow n k v cs w d row j at) (h : j < k) where
+module _ (n k v : ℕ) (cs w d row : List ℕ) (j at : ℕ) (pre : OwnRowPre n k v cs w d) (s : OwnRow n k v cs w d row j at) (h : j < k) where
   pub own-at : at < length cs
   own-at = omega (arith, s .place, count-in n k cs w (pre .grid) v j (pre .node) h)
 
@@ -50,7 +50,7 @@ module _ (n k v : ℕ) (cs w d row : List ℕ) (j at : ℕ) (pre : RowPre n k v 
     filled = filling-step (ownDiff cs n k w v) d row j (getD cs at 0 - cell k w v j) (s .filled) (omega (arith, pre .long)) (ap (λ (e : ℕ). getD cs e 0 - cell k w v j) (s .place));
   }
 
-pub own-end : (n k v : ℕ) (cs w d row : List ℕ) (j at : ℕ) → RowPre n k v cs w d → OwnRow n k v cs w d row j at → k ≤ j → row ≡ tabulate k (ownDiff cs n k w v)
+pub own-end : (n k v : ℕ) (cs w d row : List ℕ) (j at : ℕ) → OwnRowPre n k v cs w d → OwnRow n k v cs w d row j at → k ≤ j → row ≡ tabulate k (ownDiff cs n k w v)
 own-end n k v cs w d row j at pre s h =
     filling-end (ownDiff cs n k w v) d row j (s .filled) (omega (arith, pre .long)) ∙ ap (λ (z : ℕ). tabulate z (ownDiff cs n k w v)) (pre .long)
 
@@ -108,7 +108,7 @@ module _ (n k : ℕ) (cs w s₀ s : List ℕ) (v at : ℕ) (pre : OwnPre n k cs 
     unfolding ownRows
     write-fits = omega (arith, t .long, grown, pre .room, gather-le (v + 1) n (λ u. eqb (flagAt n k w u) 1) (λ u. tabulate k (ownDiff cs n k w u)) (omega arith))
 
-    pub row-pre : RowPre n k v cs w (take (at + k - at) (drop at s))
+    pub row-pre : OwnRowPre n k v cs w (take (at + k - at) (drop at s))
     row-pre = record {
       grid = pre .grid;
       node = l;

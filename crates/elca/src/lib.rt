@@ -6,8 +6,9 @@ mod rows;
 ghost use Prim.Native.Nat.{_+_, _*_};
 ghost use lib.Dec.{eqb};
 ghost use Rattle.index.specs.Contracts.{lent};
-ghost use Rattle.elca.specs.Rows.{flagAt, ownDiff};
-ghost use Rattle.elca.specs.Contracts.{Searched, Answered, PutPre, SearchPre, Found};
+ghost use Rattle.elca.specs.Inner.Rows.{flagAt, ownDiff};
+ghost use Rattle.elca.specs.Contracts.{ElcaSearched};
+ghost use Rattle.elca.specs.Inner.Steps.{Answered, PutPre, SearchPre, Found};
 use index::Reply;
 
 // Lists the flagged nodes with their own counts: ROOM where out or own is short, with the answers needed.
@@ -79,7 +80,7 @@ pub fn elca(
     out: &mut [u32],
     own: &mut [u32],
 ) -> Reply
-    ensures { λ r. ⌜ Searched (lent (now (parents .entry)) (now (tags .entry)) p q (now (ends .entry)) (now (occurrences .entry))
+    ensures { λ r. ⌜ ElcaSearched (lent (now (parents .entry)) (now (tags .entry)) p q (now (ends .entry)) (now (occurrences .entry))
         (now (counts .entry))) (now (work .entry)) (now (out .entry)) (now (own .entry)) r (now (work .exit)) (now (out .exit))
         (now (own .exit)) ⌝ }
 {

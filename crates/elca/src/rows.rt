@@ -5,14 +5,14 @@ ghost use mathlib.Core.Bool.{cond};
 ghost use lib.ListN.{length};
 ghost use Rattle.seq.specs.Below.{tabulate};
 ghost use Rattle.seq.specs.Memory.{over};
-ghost use Rattle.index.specs.Contracts.{cell};
-ghost use Rattle.elca.specs.Rows.{flagAt, heldBy, aboveHeld, ownDiff, ownRows, Rows};
-ghost use Rattle.elca.specs.Contracts.{Grid, GivePre, given, TakePre, isFlagged, NodePre, RowPre, OwnPre};
+ghost use Rattle.index.specs.Inner.{cell};
+ghost use Rattle.elca.specs.Inner.Rows.{flagAt, heldBy, aboveHeld, ownDiff, ownRows, SumsAndFlags};
+ghost use Rattle.elca.specs.Inner.Steps.{Grid, GivePre, given, TakeOffPre, isFlagged, NodePre, OwnRowPre, OwnPre};
 
 // Adds child c's count of each word to what stands at node `up`.
 fn give(counts: &[u32], n: usize, k: usize, c: usize, up: usize, work: &mut [u32])
     requires { ⌜ GivePre n k c up (now counts) (now work) ⌝ }
-    ensures { λ r. ⌜ Rows n k (given (now (counts .entry)) n k c up (now (work .entry))) (flagAt n k (now (work .entry)))
+    ensures { λ r. ⌜ SumsAndFlags n k (given (now (counts .entry)) n k c up (now (work .entry))) (flagAt n k (now (work .entry)))
         (now (work .exit)) ⌝ }
 {
     let above = up * k;
@@ -28,8 +28,8 @@ fn give(counts: &[u32], n: usize, k: usize, c: usize, up: usize, work: &mut [u32
 
 // From zeros: what the flagged children of each node hold of each word. The flags stay.
 pub(crate) fn take_off(parents: &[u32], counts: &[u32], k: usize, work: &mut [u32])
-    requires { ⌜ TakePre (now parents) (now counts) k (now work) ⌝ }
-    ensures { λ r. ⌜ Rows (length (now (parents .entry))) k
+    requires { ⌜ TakeOffPre (now parents) (now counts) k (now work) ⌝ }
+    ensures { λ r. ⌜ SumsAndFlags (length (now (parents .entry))) k
         (heldBy (now (parents .entry)) (now (counts .entry)) (isFlagged (length (now (parents .entry))) k (now (work .entry))))
         (flagAt (length (now (parents .entry))) k (now (work .entry))) (now (work .exit)) ⌝ }
 {
@@ -66,7 +66,7 @@ fn is_above(counts: &[u32], n: usize, k: usize, v: usize, work: &[u32]) -> bool
 // Each flag becomes 1 where each word's count is above what stands in work for it, else 0. The sums stay.
 pub(crate) fn flag_above(counts: &[u32], n: usize, k: usize, work: &mut [u32])
     requires { ⌜ Grid n k (now counts) (now work) ⌝ }
-    ensures { λ r. ⌜ Rows n k (cell k (now (work .entry)))
+    ensures { λ r. ⌜ SumsAndFlags n k (cell k (now (work .entry)))
         (λ v. cond (aboveHeld (now (counts .entry)) n k (now (work .entry)) v) 1 0) (now (work .exit)) ⌝ }
 {
     let sums = n * k;
@@ -85,7 +85,7 @@ pub(crate) fn flag_above(counts: &[u32], n: usize, k: usize, work: &mut [u32])
 
 // The own counts of node v, in word order.
 fn own_row(counts: &[u32], n: usize, k: usize, v: usize, work: &[u32], row: &mut [u32])
-    requires { ⌜ RowPre n k v (now counts) (now work) (now row) ⌝ }
+    requires { ⌜ OwnRowPre n k v (now counts) (now work) (now row) ⌝ }
     ensures { λ r. ⌜ now (row .exit) ≡ tabulate k (ownDiff (now (counts .entry)) n k (now (work .entry)) v) ⌝ }
 {
     let base = v * k;

@@ -22,7 +22,7 @@ use Rattle.tree.specs.Tree.{child}
 use Rattle.tree.specs.Rules.{text}
 use Rattle.tree.proofs.Laws.Children.{child-root}
 use Rattle.answers.specs.Classes.{isText, isAttribute, isEntity, isDummy, isEntityClass, children, oneText, twin, classOf, entity}
-use Rattle.entities.specs.Codes.{childrenTo, textTo, kidCode, codeTo, grown, entityBy, twinsOf, codes}
+use Rattle.entities.specs.Inner.{childrenTo, textTo, kidCode, codeTo, grown, entityBy, twinsOf, codes}
 
 -- ---- by cases of the number of children so far
 -- The code of a node with a twin or not, of which k children and maybe a text child are passed.

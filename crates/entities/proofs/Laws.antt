@@ -21,13 +21,13 @@ use Rattle.tree.specs.Plain.{Down}
 use Rattle.answers.specs.Classes.{sibling, twin, closest}
 use Rattle.twins.specs.Twins.{twinFlag, fitsTwins, flagRows, twinRows}
 use Rattle.twins.proofs.Laws.{twinFlag-is, length-flagRows, twins-fits, twins-fit}
-use Rattle.entities.specs.Codes.{Holds, TreePre, twinsOf}
-use Rattle.entities.specs.Closest.{before, fitsClosest, closestRows}
+use Rattle.entities.specs.Inner.{Holds, TreePre, twinsOf}
+use Rattle.entities.specs.Closest.{parentsBefore, fitsClosest, closestRows}
 use Rattle.entities.proofs.Walking.{before-down}
 
 -- In a tree each parent stands before its child.
-pub before-of : (p : List ℕ) → Down p (length p) → before p ≡ true
-unfolding before
+pub before-of : (p : List ℕ) → Down p (length p) → parentsBefore p ≡ true
+unfolding parentsBefore
 before-of p d = every-of (length p) _ ahead
   where
     ahead : (v : ℕ) → v < length p → (eqb v 0 || ltb (parent p v) v) ≡ true
@@ -83,7 +83,7 @@ module _ (p t w : List ℕ) where
   closest-short h =
       kept (and-false-left _ _ (and-false-right (leb (length p) 65536) _ (and-false-right (eqb (length t) (length p)) _ (lt-leb (length p * 3) (length w) h))))
 
-  pub closest-unordered : before p ≡ false → w ≡ closestRows p t w
+  pub closest-unordered : parentsBefore p ≡ false → w ≡ closestRows p t w
   unfolding fitsClosest
   closest-unordered e = kept (and-false-right (fitsTwins p t (length w)) _ e)
 
@@ -103,7 +103,7 @@ module _ (p t w : List ℕ) where
 
   module _ (few : length p ≤ 65536) (tagged : length t ≡ length p) (room : length p * 3 ≤ length w) where
     -- Where they fit, the closest entities and two rows of zeros stand over their front.
-    pub closest-fit : before p ≡ true → closestRows p t w ≡ over (tabulate (length p) (closest p t) ++ replicate (length p * 2) 0) w
+    pub closest-fit : parentsBefore p ≡ true → closestRows p t w ≡ over (tabulate (length p) (closest p t) ++ replicate (length p * 2) 0) w
     unfolding closestRows fitsClosest
     closest-fit ahead = rw (and-both _ _ (twins-fits p t w few tagged room) ahead)
 
@@ -121,7 +121,7 @@ module _ (p t w : List ℕ) where
       pub closest-length : length w₁ ≡ length w
       closest-length = ap length e₁ ∙ long
 
-      module _ (ahead : before p ≡ true) where
+      module _ (ahead : parentsBefore p ≡ true) where
         pub closest-pre : (length p ≡ 0 → ⊥) → TreePre p t (twinsOf p t) (take (length p) w₁)
         unfolding over
         closest-pre ne = record {
@@ -152,7 +152,7 @@ pub length-closestRows : (p t w : List ℕ) → length (closestRows p t w) ≡ l
 unfolding closestRows fitsClosest fitsTwins
 length-closestRows p t w =
     ⊎-elim (λ q. rw q (length-over _ w (omega (arith, rows, leb-true (length p * 3) (length w) (and-right (eqb (length t) (length p)) _ (and-right (leb (length p) 65536) _ (and-left _ _ q)))))))
-    (λ q. rw q) (bool-cases ((leb (length p) 65536 && (eqb (length t) (length p) && leb (length p * 3) (length w))) && before p))
+    (λ q. rw q) (bool-cases ((leb (length p) 65536 && (eqb (length t) (length p) && leb (length p * 3) (length w))) && parentsBefore p))
   where
     rows : length (tabulate (length p) (closest p t) ++ replicate (length p * 2) 0) ≡ length p * 3
     rows = omega (arith, length-append (tabulate (length p) (closest p t)) (replicate (length p * 2) 0), length-tabulate (length p) (closest p t), length-replicate {A = ℕ} (length p * 2) 0)

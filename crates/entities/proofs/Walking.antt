@@ -24,8 +24,8 @@ use Rattle.tree.specs.Plain.{Down}
 use Rattle.tree.proofs.Laws.Children.{child-of, parent-less}
 use Rattle.answers.specs.Classes.{entity, closest}
 use Rattle.answers.proofs.Laws.Not.{closest-first, closest-suc}
-use Rattle.entities.specs.Codes.{codeTo, grown, entityBy, Holds, TreePre, twinsOf, codes}
-use Rattle.entities.specs.Closest.{before}
+use Rattle.entities.specs.Inner.{codeTo, grown, entityBy, Holds, TreePre, twinsOf, codes}
+use Rattle.entities.specs.Closest.{parentsBefore}
 use Rattle.entities.proofs.Codes.{code-start, code-child, code-other, code-few, entity-code}
 
 -- ---- counting children
@@ -168,8 +168,8 @@ ahead-start p = record { some = omega arith; passed = λ u l. or-left (eqb u 0) 
     none u l = omega arith
 
 module _ (p : List ℕ) (v : ℕ) (s : Ahead p v) (u : ℕ) (e : u ≡ parent p v) where
-  pub ahead-fails : v < length p → v ≤ u → false ≡ before p
-  unfolding before
+  pub ahead-fails : v < length p → v ≤ u → false ≡ parentsBefore p
+  unfolding parentsBefore
   ahead-fails l h =
       sym (every-fails (length p) (ahead p) v l (rw (ne-eqb v 0 (λ (q : v ≡ 0). omega (arith, s .some)), le-ltb (parent p v) v (omega arith))))
 
@@ -179,12 +179,12 @@ module _ (p : List ℕ) (v : ℕ) (s : Ahead p v) (u : ℕ) (e : u ≡ parent p 
     passed = λ k l. ⊎-elim (λ q. s .passed k q) (λ q. subst (λ (z : ℕ). ahead p z ≡ true) (le-antisymm q (omega arith)) (or-right (eqb v 0) _ (lt-ltb (parent p v) v (omega arith)))) (less-or k v);
   }
 
-pub ahead-end : (p : List ℕ) (v : ℕ) → Ahead p v → length p ≤ v → true ≡ before p
-unfolding before
+pub ahead-end : (p : List ℕ) (v : ℕ) → Ahead p v → length p ≤ v → true ≡ parentsBefore p
+unfolding parentsBefore
 ahead-end p v s h = sym (every-of (length p) (ahead p) (λ u l. s .passed u (omega arith)))
 
-pub before-down : (p : List ℕ) → before p ≡ true → Down p (length p)
-unfolding before
+pub before-down : (p : List ℕ) → parentsBefore p ≡ true → Down p (length p)
+unfolding parentsBefore
 before-down p e i l =
     ⊎-elim (λ q. absurd (no-zero (eqb-true (suc i) 0 q))) (λ q. omega (arith, ltb-true (parent p (suc i)) (suc i) q))
     (or-cases (eqb (suc i) 0) (ltb (parent p (suc i)) (suc i)) (every-at (length p) (ahead p) e (suc i) l))

@@ -4,8 +4,8 @@ ghost use mathlib.Core.Path.{_≡_};
 ghost use Prim.Native.Nat.{_≤_};
 ghost use lib.ListN.{length};
 ghost use Rattle.answers.specs.Classes.{closest};
-ghost use Rattle.entities.specs.Codes.{grown, entityBy, Holds, TreePre, twinsOf, codes};
-ghost use Rattle.entities.specs.Closest.{before, closestRows};
+ghost use Rattle.entities.specs.Inner.{grown, entityBy, Holds, TreePre, twinsOf, codes};
+ghost use Rattle.entities.specs.Closest.{parentsBefore, closestRows};
 
 // A node with this tag and this code is an entity: it is no text, has a twin, and has not one text child alone.
 fn is_entity(tag: u32, code: u32) -> bool
@@ -79,7 +79,7 @@ fn fill(parents: &[u32], tags: &[u32], row: &mut [u32])
 
 // Whether each parent stands before its child.
 fn parents_before(parents: &[u32]) -> bool
-    ensures { λ r. ⌜ r ≡ before (now (parents .entry)) ⌝ }
+    ensures { λ r. ⌜ r ≡ parentsBefore (now (parents .entry)) ⌝ }
 {
     let mut v: usize = 1;
     while v < parents.len() {

@@ -9,7 +9,8 @@ use lib.Dec.{ltb}
 use lib.ListN.{length, getD}
 use Rattle.seq.specs.Below.{everyBelow, tabulate}
 use Rattle.seq.proofs.Laws.Gather.{length-tabulate, getD-tabulate}
-use Rattle.full.specs.Full.{fullBy, fullFlags, FullPre}
+use Rattle.full.specs.Full.{fullBy, fullFlags}
+use Rattle.full.specs.Inner.{FullPre}
 
 pub fullBy-is : (cs : List ℕ) (n k v : ℕ) (b : Bool) → everyBelow k (λ j. ltb 0 (getD cs (j * n + v) 0)) ≡ b → b ≡ fullBy cs n k v
 unfolding fullBy

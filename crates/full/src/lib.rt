@@ -1,7 +1,8 @@
 // Full flags from counts: which nodes have every word under them (01, "Which nodes are listed").
 ghost use mathlib.Core.Path.{_≡_};
 ghost use lib.ListN.{length};
-ghost use Rattle.full.specs.Full.{fullBy, fullFlags, FullPre};
+ghost use Rattle.full.specs.Full.{fullBy, fullFlags};
+ghost use Rattle.full.specs.Inner.{FullPre};
 
 // Whether each of k words has a count above 0 at node v.
 fn is_full(counts: &[u32], n: usize, k: usize, v: usize) -> bool

@@ -17,7 +17,8 @@ use Rattle.index.specs.declared.Reply.{Reply}
 use Rattle.index.specs.Index.{Index, nodes}
 use Rattle.index.specs.Replies.{accepted, SIZE, ROOM, refused, totalled, keptOr}
 use Rattle.answers.specs.Searches.{outRow, outOf, answers, roomed, outFits}
-use Rattle.listing.specs.Listing.{flagged, flaggedRows, flaggedReply, flaggedOut, Listed, WritePre}
+use Rattle.listing.specs.Listing.{flagged, flaggedRows, flaggedReply, flaggedOut, Listed}
+use Rattle.listing.specs.Inner.{WritePre}
 
 -- Each flagged node puts one entry into out.
 pub rows-length : (fl : List ℕ) → length (flaggedRows fl) ≡ length (listed (length fl) (flagged fl))

@@ -1,5 +1,5 @@
 -- What the loops over the flags know, and how a turn keeps it. Assumes nothing.
---   Counted    m of the nodes below v are flagged
+--   CountedTo    m of the nodes below v are flagged
 --   Written    and they are written over the front of out
 -- Letters: fl flags, v node, m nodes so far.
 use Prim.Native.Nat.{ℕ, zero-le, _+_, _≤_, _<_}
@@ -14,7 +14,8 @@ use Rattle.seq.specs.Memory.{over}
 use Rattle.seq.proofs.Laws.Gather.{gather-zero, gather-yes, gather-no, gather-le}
 use Rattle.seq.proofs.Laws.Memory.{over-nil, over-snoc}
 use Rattle.answers.specs.Searches.{outRow}
-use Rattle.listing.specs.Listing.{flagged, flaggedRows, WritePre}
+use Rattle.listing.specs.Listing.{flagged, flaggedRows}
+use Rattle.listing.specs.Inner.{WritePre}
 
 -- What is written for the nodes below v.
 abbrev pub rowsTo : List ℕ → ℕ → List ℕ
@@ -30,31 +31,31 @@ module _ (fl : List ℕ) (v : ℕ) where
   rows-no ne = gather-no v (flagged fl) outRow (ne-eqb (getD fl v 0) 1 ne)
 
 -- ---- counting
-pub record Counted (fl : List ℕ) (v m : ℕ) : Type 0 where
+pub record CountedTo (fl : List ℕ) (v m : ℕ) : Type 0 where
   pub within : v ≤ length fl
   pub so-far : m ≡ length (rowsTo fl v)
   pub small : m ≤ v
 
-pub counted-start : (fl : List ℕ) → Counted fl 0 0
+pub counted-start : (fl : List ℕ) → CountedTo fl 0 0
 counted-start fl = record { within = zero-le; so-far = sym (ap length (gather-zero (flagged fl) outRow)); small = zero-le }
 
-pub counted-yes : (fl : List ℕ) (v m : ℕ) → Counted fl v m → v < length fl → getD fl v 0 ≡ 1 → Counted fl (v + 1) (m + 1)
+pub counted-yes : (fl : List ℕ) (v m : ℕ) → CountedTo fl v m → v < length fl → getD fl v 0 ≡ 1 → CountedTo fl (v + 1) (m + 1)
 counted-yes fl v m s l e = record {
   within = omega arith;
   so-far = omega (arith, s .so-far, ap length (rows-yes fl v e), length-append (rowsTo fl v) (v ∷ []));
   small = omega (arith, s .small);
 }
 
-pub counted-no : (fl : List ℕ) (v m : ℕ) → Counted fl v m → v < length fl → (getD fl v 0 ≡ 1 → ⊥) → Counted fl (v + 1) m
+pub counted-no : (fl : List ℕ) (v m : ℕ) → CountedTo fl v m → v < length fl → (getD fl v 0 ≡ 1 → ⊥) → CountedTo fl (v + 1) m
 counted-no fl v m s l ne = record { within = omega arith; so-far = s .so-far ∙ sym (ap length (rows-no fl v ne)); small = omega (arith, s .small) }
 
-pub counted-end : (fl : List ℕ) (v m : ℕ) → Counted fl v m → length fl ≤ v → m ≡ length (listed (length fl) (flagged fl))
+pub counted-end : (fl : List ℕ) (v m : ℕ) → CountedTo fl v m → length fl ≤ v → m ≡ length (listed (length fl) (flagged fl))
 unfolding listed
 counted-end fl v m s l = s .so-far ∙ ap (λ (z : ℕ). length (rowsTo fl z)) (le-antisymm (s .within) l)
 
 -- ---- writing
 pub record Written (fl out₀ out : List ℕ) (v m : ℕ) : Type 0 where
-  pub counted : Counted fl v m
+  pub counted : CountedTo fl v m
   pub front : out ≡ over (rowsTo fl v) out₀
   pub long : length out ≡ length out₀
 

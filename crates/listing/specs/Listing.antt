@@ -3,7 +3,7 @@
 --   flaggedReply fl o     == SIZE for more than 65,536 flags; else ROOM or acceptance, with the number of flagged nodes, for out of length o
 --   flaggedOut fl out     == out after the call
 -- Letters: fl flags, v node. Assumes nothing.
-use Prim.Native.Nat.{ℕ, _≤_}
+use Prim.Native.Nat.{ℕ}
 use mathlib.Core.Path.{_≡_}
 use mathlib.Core.List.{List}
 use mathlib.Core.Bool.{Bool, cond}
@@ -29,12 +29,7 @@ flaggedReply fl o =
 unfoldable pub flaggedOut : List ℕ → List ℕ → List ℕ
 flaggedOut fl out = keptOr (flaggedReply fl (length out)) (flaggedRows fl) out
 
--- ---- what the functions promise
 -- Out was o and is o′ at the end.
 pub record Listed (fl o : List ℕ) (r : Reply) (o′ : List ℕ) : Type 0 where
   pub reply : r ≡ flaggedReply fl (length o)
   pub out : o′ ≡ flaggedOut fl o
-
-pub record WritePre (fl out : List ℕ) : Type 0 where
-  pub few : length fl ≤ 65536
-  pub room : length (flaggedRows fl) ≤ length out

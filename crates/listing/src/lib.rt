@@ -3,7 +3,8 @@ ghost use mathlib.Core.Path.{_≡_};
 ghost use lib.ListN.{length};
 ghost use Rattle.seq.specs.Below.{listed};
 ghost use Rattle.seq.specs.Memory.{over};
-ghost use Rattle.listing.specs.Listing.{flagged, flaggedRows, Listed, WritePre};
+ghost use Rattle.listing.specs.Listing.{flagged, flaggedRows, Listed};
+ghost use Rattle.listing.specs.Inner.{WritePre};
 use index::Reply;
 
 // The number of nodes flagged with 1.

@@ -1,2 +1,2 @@
 pub mod Lines
-pub mod Contracts
+pub mod Inner

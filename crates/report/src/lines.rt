@@ -8,7 +8,7 @@ ghost use lib.ListN.{take};
 ghost use Rattle.text.specs.Text.{decimal};
 ghost use Rattle.report.specs.Lines.{replyText, lineText, answerText, listedBy};
 ghost use Rattle.text.specs.Buffers.{Adds};
-ghost use Rattle.report.specs.Contracts.{Shown};
+ghost use Rattle.report.specs.Inner.{Shown};
 
 // What a line says before its node.
 fn put_reply(out: &mut [u8], at: usize, name: &[u8], reply: Reply) -> usize

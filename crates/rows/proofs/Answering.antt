@@ -11,11 +11,11 @@ use Rattle.seq.proofs.Laws.Gather.{length-tabulate}
 use Rattle.index.specs.Contracts.{lent}
 use Rattle.text.specs.Buffers.{Adds}
 use Rattle.text.proofs.Laws.Buffers.{front-take, adds-next, adds-read}
-use Rattle.sheet.specs.Table.{Table, cell, width}
+use Rattle.sheet.specs.Table.{Table, fieldOf, width}
 use Rattle.rows.specs.Lent.{listsOf, endOf, countOf, indexOf}
 use Rattle.report.specs.Lines.{elcaText, slcaText, validText}
 use Rattle.rows.specs.Output.{answersText}
-use Rattle.rows.specs.Contracts.{ColumnPre, WordsPre, Words, AnswersPre, lentWords, threeText}
+use Rattle.rows.specs.Inner.{ColumnPre, LendWordsPre, Words, AnswersPre, lentWords, threeText}
 use Rattle.rows.proofs.Lending.{lists-le}
 
 -- What is lent for the words.
@@ -31,7 +31,7 @@ module _ (T : Table) (a : AnswersPre T) where
   answers-column i l = record { field = omega arith; full = omega (arith, a .full); few = a .nodes }
 
   pub answers-column-is : (i : ℕ) (o : List ℕ) (r : ℕ) →
-      Adds (tabulate (T .nodes) (λ v. getD (T .cells) (v * width (T .positive + T .negative) + i) 0)) (replicate 256 0) 0 o r → take (T .nodes) o ≡ tabulate (T .nodes) (λ v. cell T v i)
+      Adds (tabulate (T .nodes) (λ v. getD (T .cells) (v * width (T .positive + T .negative) + i) 0)) (replicate 256 0) 0 o r → take (T .nodes) o ≡ tabulate (T .nodes) (λ v. fieldOf T v i)
   answers-column-is i o r h =
       ap (λ (k : ℕ). take k o) (sym (adds-next _ (replicate 256 0) o r fits h ∙ length-tabulate (T .nodes) _)) ∙ adds-read _ (replicate 256 0) o r fits h
     where
@@ -42,7 +42,7 @@ module _ (T : Table) (a : AnswersPre T) where
     pub answers-product : k * T .nodes ≤ 2048
     answers-product = omega (arith, mul-le-mul-right {m = k} {n = 8} (T .nodes) (omega (arith, a .words)), a .nodes)
 
-    pub answers-words : WordsPre T k 2048
+    pub answers-words : LendWordsPre T k 2048
     answers-words = record { words = l; fewWords = a .words; fewNodes = a .nodes; full = omega (arith, a .full); roomy = answers-product }
 
     module _ (r : ℕ) (E O C : List ℕ) (w : Words T k noEnds noNumbers noNumbers r E O C) where
@@ -71,7 +71,7 @@ module _ (T : Table) (a : AnswersPre T) where
           same x y z = λ i. lent P S p q (x i) (y i) (z i)
 
 -- With the parents and tags of the table, the three searches give its answers.
-pub answers-three : (T : Table) (P S : List ℕ) → P ≡ tabulate (T .nodes) (λ v. cell T v 0) → S ≡ tabulate (T .nodes) (λ v. cell T v 1) → threeText T P S ≡ answersText T
+pub answers-three : (T : Table) (P S : List ℕ) → P ≡ tabulate (T .nodes) (λ v. fieldOf T v 0) → S ≡ tabulate (T .nodes) (λ v. fieldOf T v 1) → threeText T P S ≡ answersText T
 unfolding answersText indexOf
 answers-three T P S e f =
     ap₂ (λ (x y : List ℕ). threeText T x y) e f

@@ -15,9 +15,9 @@ use Rattle.seq.proofs.Laws.Numbers.{row-next, row-le}
 use Rattle.text.specs.Buffers.{Adds}
 use Rattle.text.proofs.Laws.Adding.{Adding, adding-start, adding-step, adding-end}
 use Rattle.text.proofs.Laws.Buffers.{adds-nil, adds-append, adds-same, adds-all, adds-next}
-use Rattle.sheet.specs.Table.{Table, cell, width}
+use Rattle.sheet.specs.Table.{Table, fieldOf, width}
 use Rattle.rows.specs.Lent.{listOf, listsOf, endOf, countOf}
-use Rattle.rows.specs.Contracts.{ColumnPre, WordsPre, Words}
+use Rattle.rows.specs.Inner.{ColumnPre, LendWordsPre, Words}
 use Rattle.rows.proofs.Laws.Lists.{tabulate-zero, tabulate-row, listed-yes, listed-no}
 
 -- ---- down a column
@@ -30,7 +30,7 @@ along-start t w i n o a e = record { adding = adding-start t n o a e; place = om
 
 module _ (t : ℕ → List ℕ) (w i n : ℕ) (o : List ℕ) (a : ℕ) (out : List ℕ) (at «from» v : ℕ) (s : Along t w i n o a out at «from» v) where
   module _ (cs : List ℕ) (pre : ColumnPre w i n cs) (l : v < n) where
-    -- There is such a cell.
+    -- There is such a field.
     pub along-below : «from» < length cs
     along-below = omega (arith, s .place, pre .field, pre .full, row-le v n w l)
 
@@ -99,16 +99,16 @@ pub lists-le : (T : Table) (j : ℕ) → length (listsOf T j) ≤ j * T .nodes
 unfolding listsOf
 lists-le T zero = zero-le
 lists-le T (suc j) =
-    omega (arith, length-append (listsOf T j) (listOf T j), lists-le T j, listed-le (T .nodes) (λ v. eqb (cell T v (2 + 2 * j)) 1), suc-mul j (T .nodes))
+    omega (arith, length-append (listsOf T j) (listOf T j), lists-le T j, listed-le (T .nodes) (λ v. eqb (fieldOf T v (2 + 2 * j)) 1), suc-mul j (T .nodes))
 
-module _ (T : Table) (k room j : ℕ) (pre : WordsPre T k room) (l : j < k) where
+module _ (T : Table) (k room j : ℕ) (pre : LendWordsPre T k room) (l : j < k) where
   pub word-list : ColumnPre (width (T .positive + T .negative)) (2 + 2 * j) (T .nodes) (T .cells)
   word-list = record { field = omega (arith, pre .words); full = pre .full; few = pre .fewNodes }
 
   pub word-count : ColumnPre (width (T .positive + T .negative)) (2 + 2 * j + 1) (T .nodes) (T .cells)
   word-count = record { field = omega (arith, pre .words); full = pre .full; few = pre .fewNodes }
 
-module _ (T : Table) (k : ℕ) (E O C E′ O′ C′ : List ℕ) (e o c j : ℕ) (s : Wording T k E O C E′ O′ C′ e o c j) (pre : WordsPre T k (length O)) where
+module _ (T : Table) (k : ℕ) (E O C E′ O′ C′ : List ℕ) (e o c j : ℕ) (s : Wording T k E O C E′ O′ C′ e o c j) (pre : LendWordsPre T k (length O)) where
   pub word-end : k ≤ j → Words T k E O C o E′ O′ C′
   word-end l =
       let all : Words T j E O C o E′ O′ C′ = record {
@@ -150,7 +150,7 @@ module _ (T : Table) (k : ℕ) (E O C E′ O′ C′ : List ℕ) (e o c j : ℕ)
         lists = listed-more;
         counts = adds-same _ _ C C″ 0 c′
             (ap (λ (i : ℕ). tabulate (j * T .nodes) (countOf T) ++ tabulate (T .nodes) (λ v. getD (T .cells) (v * width (T .positive + T .negative) + i) 0)) field
-            ∙ sym (tabulate-row j (T .nodes) (λ v i. cell T v (3 + 2 * i))))
+            ∙ sym (tabulate-row j (T .nodes) (λ v i. fieldOf T v (3 + 2 * i))))
             (adds-append _ _ C C′ C″ 0 c c′ (s .counts) count);
       }
         where

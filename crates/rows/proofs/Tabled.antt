@@ -15,7 +15,7 @@ use Rattle.sheet.specs.Contracts.{readOf, cellsRead}
 use Rattle.sheet.proofs.Laws.Reading.{Taking, taken-at}
 use Rattle.rows.specs.Output.{answersText, headText, tableOutput}
 use Rattle.rows.proofs.Laws.Output.{output-table}
-use Rattle.rows.specs.Contracts.{tableIn, AnswersPre}
+use Rattle.rows.specs.Inner.{tableIn, AnswersPre}
 
 -- ---- a table
 module _ (s : List ℕ) (t : Shape) (r : Read) (e : r ≡ readOf s) (f : r ≡ Taken t) (cs′ : List ℕ) (h : cs′ ≡ front (cellsRead s) (replicate 4608 0)) where

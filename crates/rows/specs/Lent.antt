@@ -12,10 +12,10 @@ use lib.Dec.{eqb}
 use lib.ListN.{length}
 use Rattle.seq.specs.Below.{tabulate, listed}
 use Rattle.index.specs.Index.{Index}
-use Rattle.sheet.specs.Table.{Table, cell}
+use Rattle.sheet.specs.Table.{Table, fieldOf}
 
 abbrev pub listOf : Table → ℕ → List ℕ
-listOf T j = listed (T .nodes) λ v. eqb (cell T v (2 + 2 * j)) 1
+listOf T j = listed (T .nodes) λ v. eqb (fieldOf T v (2 + 2 * j)) 1
 
 unfoldable pub listsOf : Table → ℕ → List ℕ
 listsOf T zero = []
@@ -25,12 +25,12 @@ abbrev pub endOf : Table → ℕ → ℕ
 endOf T j = length (listsOf T (suc j))
 
 abbrev pub countOf : Table → ℕ → ℕ
-countOf T e = cell T (e % T .nodes) (3 + 2 * (e / T .nodes))
+countOf T e = fieldOf T (e % T .nodes) (3 + 2 * (e / T .nodes))
 
 unfoldable pub indexOf : Table → ℕ → ℕ → Index
 indexOf T p q = record {
-  parents = tabulate (T .nodes) λ v. cell T v 0;
-  tags = tabulate (T .nodes) λ v. cell T v 1;
+  parents = tabulate (T .nodes) λ v. fieldOf T v 0;
+  tags = tabulate (T .nodes) λ v. fieldOf T v 1;
   positive = p;
   negative = q;
   ends = tabulate (p + q) (endOf T);

@@ -1,3 +1,3 @@
 pub mod Lent
 pub mod Output
-pub mod Contracts
+pub mod Inner

@@ -6,7 +6,7 @@ ghost use lib.Dec.{eqb};
 ghost use lib.ListN.{length, getD};
 ghost use Rattle.seq.specs.Below.{tabulate, listed};
 ghost use Rattle.text.specs.Buffers.{Adds};
-ghost use Rattle.rows.specs.Contracts.{tableIn, ColumnPre, WordsPre, Words};
+ghost use Rattle.rows.specs.Inner.{tableIn, ColumnPre, LendWordsPre, Words};
 
 // The numbers in field i of the n node lines.
 pub(crate) fn column(
@@ -58,7 +58,7 @@ pub(crate) fn words(
     occurrences: &mut [u32],
     counts: &mut [u32],
 ) -> usize
-    requires { ⌜ WordsPre (tableIn t (now cells)) k (length (now occurrences)) ⌝ }
+    requires { ⌜ LendWordsPre (tableIn t (now cells)) k (length (now occurrences)) ⌝ }
     ensures { λ r. ⌜ Words (tableIn t (now (cells .entry))) k (now (ends .entry)) (now (occurrences .entry)) (now (counts .entry)) r
         (now (ends .exit)) (now (occurrences .exit)) (now (counts .exit)) ⌝ }
 {

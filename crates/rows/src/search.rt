@@ -7,7 +7,7 @@ use sheet::Shape;
 ghost use Rattle.text.specs.Buffers.{Adds};
 ghost use Rattle.report.specs.Lines.{pairText, validText};
 ghost use Rattle.rows.specs.Output.{answersText};
-ghost use Rattle.rows.specs.Contracts.{tableIn, lentWords, AnswersPre};
+ghost use Rattle.rows.specs.Inner.{tableIn, lentWords, AnswersPre};
 
 // ELCA and SLCA run on the positive words.
 fn put_positive(

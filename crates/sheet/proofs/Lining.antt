@@ -21,9 +21,10 @@ use Rattle.text.specs.Text.{lineLength, firstLine, afterLine, allLines, fields,
 use Rattle.text.specs.Buffers.{Adds}
 use Rattle.text.proofs.Laws.Text.{lineLength-le, lines-none, lines-some}
 use Rattle.text.proofs.Laws.Buffers.{adds-nil, adds-append, adds-same, adds-all}
-use Rattle.sheet.specs.declared.Row.{Row}
+use Rattle.sheet.specs.declared.NodeLine.{NodeLine}
 use Rattle.sheet.specs.Table.{rowOk, rowOf, cellsOf}
-use Rattle.sheet.specs.Contracts.{nodeOk, rowRead, rowsRead, RowRead, RowsRead}
+use Rattle.sheet.specs.Inner.{nodeLineOk, RowRead, RowsRead}
+use Rattle.sheet.specs.Contracts.{rowRead, rowsRead}
 use Rattle.sheet.proofs.Rowing.{row-read}
 
 -- ---- what is read of lines
@@ -86,7 +87,7 @@ pub record Lining (w : ℕ) (s : List ℕ) (a : ℕ) (c d : List ℕ) (next v at
   pub few : v ≤ 256
   -- the lines from v on are those of the rest of the text
   pub left : drop v (allLines (drop a s)) ≡ allLines (drop at s)
-  pub scan : Scan (length (allLines (drop a s))) (nodeOk w (allLines (drop a s))) v
+  pub scan : Scan (length (allLines (drop a s))) (nodeLineOk w (allLines (drop a s))) v
   pub long : length d ≡ length c
   pub added : Adds (cellsOf (take v (allLines (drop a s)))) c 0 d next
 
@@ -96,7 +97,7 @@ rows-start w s a c h = record {
   inside = h;
   few = omega arith;
   left = refl;
-  scan = scan-start (length (allLines (drop a s))) (nodeOk w (allLines (drop a s)));
+  scan = scan-start (length (allLines (drop a s))) (nodeLineOk w (allLines (drop a s)));
   long = refl;
   added = adds-nil c 0;
 }
@@ -175,7 +176,7 @@ module _ (w : ℕ) (s : List ℕ) (a : ℕ) (c d : List ℕ) (next v at : ℕ) (
           size = omega arith
 
       -- The row that is read of it.
-      module _ (r : Row) (d′ : List ℕ) (row : RowRead w (take (to - at) (drop at s)) d next r d′) (k : length d′ ≡ length d) (f : v ≡ 256 → ⊥) where
+      module _ (r : NodeLine) (d′ : List ℕ) (row : RowRead w (take (to - at) (drop at s)) d next r d′) (k : length d′ ≡ length d) (f : v ≡ 256 → ⊥) where
         l : List ℕ
         l = take (to - at) (drop at s)
 

@@ -25,7 +25,7 @@ use Rattle.text.specs.Text.{bytes, lines, fields, numeral, value}
 use Rattle.sheet.specs.declared.Read.the-variants.{Broken, Taken}
 use Rattle.sheet.specs.Table.{times, headerText, positives, negatives, wordsOf, headerOk, occurrence, fieldOk, rowOk, lineOk, broken, tableOf}
 use Rattle.sheet.specs.Contracts.{shapeOf, readOf}
-use Rattle.sheet.specs.Plain.{Header, Row, Lawful, First, Told}
+use Rattle.sheet.specs.Plain.{Header, Row, LawfulLines, First, Told}
 use Rattle.sheet.proofs.Tabling.{read-lines, read-broken, read-taken}
 
 -- ---- the header
@@ -114,7 +114,7 @@ first-broken : (L : List (List ℕ)) (i : ℕ) → First L i → i ≡ broken L
 unfolding broken
 first-broken L i f = first-is (length L) _ i (omega (arith, f .within)) (f .before) (λ q. bool-false _ (f .breaks))
 
-none-broken : (L : List (List ℕ)) → Lawful L → length L ≡ broken L
+none-broken : (L : List (List ℕ)) → LawfulLines L → length L ≡ broken L
 unfolding broken
 none-broken L l = first-is (length L) _ (length L) (omega arith) (l .keeps) (λ q. absurd (not-le-of-lt q (omega arith)))
 
@@ -130,14 +130,14 @@ module _ (s : List ℕ) (h : length s ≤ 16384) where
       is : i ≡ broken (lines s)
       is = first-broken (lines s) i f
 
-  pub input-none : Lawful (lines s) → readOf s ≡ Taken (shapeOf (tableOf (lines s)))
+  pub input-none : LawfulLines (lines s) → readOf s ≡ Taken (shapeOf (tableOf (lines s)))
   input-none l = read-lines s [] h ∙ read-taken (lines s) (omega (arith, none-broken (lines s) l))
 
 first-of : (L : List (List ℕ)) → broken L < length L → First L (broken L)
 unfolding broken
 first-of L h = record { within = h; before = first-below (length L) _; breaks = λ e. false≢true (sym (first-at (length L) _ h) ∙ e) }
 
-lawful-of : (L : List (List ℕ)) → length L ≤ broken L → Lawful L
+lawful-of : (L : List (List ℕ)) → length L ≤ broken L → LawfulLines L
 unfolding broken
 lawful-of L h = record { keeps = λ i l. first-below (length L) (λ k. lineOk (wordsOf (getD L 0 [])) k (getD L k [])) i (omega arith) }
 

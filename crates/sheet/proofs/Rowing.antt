@@ -23,7 +23,8 @@ use Rattle.text.specs.Buffers.{Adds}
 use Rattle.text.proofs.Laws.Text.{Numeral, numeral-at, number-is, number-other, value-small, fieldLength-le, fields-last, fields-more, fields-some, fields-first}
 use Rattle.text.proofs.Laws.Buffers.{adds-nil, adds-append, adds-same}
 use Rattle.sheet.specs.Table.{occurrence, fieldOk, rowOk}
-use Rattle.sheet.specs.Contracts.{mostIn, rowRead, RowRead}
+use Rattle.sheet.specs.Inner.{mostIn, RowRead}
+use Rattle.sheet.specs.Contracts.{rowRead}
 
 -- ---- the largest number of a field
 module _ (i : ℕ) where

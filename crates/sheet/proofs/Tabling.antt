@@ -19,10 +19,11 @@ use Rattle.text.specs.Text.{lineLength, firstLine, afterLine, allLines, lines}
 use Rattle.text.specs.Buffers.{front}
 use Rattle.text.proofs.Laws.Text.{lineLength-le}
 use Rattle.text.proofs.Laws.Buffers.{front-nil}
-use Rattle.sheet.specs.declared.Rows.{Rows}
+use Rattle.sheet.specs.declared.NodeLines.{NodeLines}
 use Rattle.sheet.specs.declared.Read.the-variants.{Broken, Taken}
 use Rattle.sheet.specs.Table.{headerText, positives, negatives, wordsOf, headerOk, width, lineOk, broken, tableOf}
-use Rattle.sheet.specs.Contracts.{nodeOk, RowsRead, shapeOf, readLines, readOf, cellsRead, TableRead}
+use Rattle.sheet.specs.Inner.{nodeLineOk, RowsRead}
+use Rattle.sheet.specs.Contracts.{shapeOf, readLines, readOf, cellsRead, TableRead}
 use Rattle.sheet.proofs.Lining.{drop-min}
 
 pub table-long : (s c : List ℕ) → 16384 < length s → TableRead s c (Broken 0) c
@@ -101,7 +102,7 @@ module _ (s : List ℕ) (to p q : ℕ) (d : Head s to p q) where
             (and-right (leb 1 (positives (firstLine s))) _ (and-left (leb 1 (positives (firstLine s)) && leb (wordsOf (firstLine s)) 8) _ e)),
       )
 
-  module _ (c : List ℕ) (h : length s ≤ 16384) (e : headerOk (firstLine s) ≡ true) (r : Rows) (c′ : List ℕ)
+  module _ (c : List ℕ) (h : length s ≤ 16384) (e : headerOk (firstLine s) ≡ true) (r : NodeLines) (c′ : List ℕ)
       (rows : RowsRead (2 + 2 * (p + q)) (allLines (drop (min (to + 2) (length s)) s)) c r c′) where
     -- The node lines, and how many fields they must have.
     L : List (List ℕ)
@@ -128,7 +129,7 @@ module _ (s : List ℕ) (to p q : ℕ) (d : Head s to p q) where
     all-cells = nodes .cells ∙ sym (rw (le-ltb 16384 (length s) h, e))
 
     few : r .n ≤ length L
-    few = omega (arith, nodes .nodes, first-le (length L) (nodeOk w L))
+    few = omega (arith, nodes .nodes, first-le (length L) (nodeLineOk w L))
 
     pub table-taken : r .good ≡ true → TableRead s c (Taken (record { p = p; q = q; n = r .n })) c′
     unfolding L tableOf lines

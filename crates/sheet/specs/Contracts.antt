@@ -1,28 +1,22 @@
--- What the functions of this crate promise. `TableRead` is the promise of its one public function; the others are between its steps.
---   mostIn i        == the largest number that field i of a node line may be
+-- What reading a table promises.
 --   rowRead w l     == what is read of a node line: its first w fields, up to the first that does not pass
 --   rowsRead w m L  == what is read of node lines: of the first m, up to the first that is not good
 --   cellsRead s     == what is read of a text: nothing where it is too long or its header is wrong
 --   readOf s        == the outcome: INPUT's place, 0 where the text is too long, else the first line, from 1, that breaks a rule; or the table
 -- Letters: s text, L lines, l line; w fields of a line; c what was lent as cells, c′ what they are at the end; r result. Assumes nothing.
-use Prim.Native.Nat.{ℕ, zero, suc, min, _≤_}
+use Prim.Native.Nat.{ℕ, zero, suc, min}
 use mathlib.Core.Path.{_≡_}
 use mathlib.Core.List.{List, [], _∷_, _++_, map}
-use mathlib.Core.Bool.{Bool, cond, _&&_}
-use lib.Dec.{eqb, ltb}
+use mathlib.Core.Bool.{cond}
+use lib.Dec.{ltb}
 use lib.ListN.{length, getD, take}
 use Rattle.seq.specs.Below.{firstFail}
 use Rattle.text.specs.Text.{firstLine, afterLine, allLines, lines, fields, value}
-use Rattle.text.specs.Buffers.{front, Adds}
-use Rattle.sheet.specs.declared.Row.{Row}
-use Rattle.sheet.specs.declared.Rows.{Rows}
+use Rattle.text.specs.Buffers.{front}
 use Rattle.sheet.specs.declared.Shape.{Shape}
 use Rattle.sheet.specs.declared.Read.{Read}
 use Rattle.sheet.specs.declared.Read.the-variants.{Broken, Taken}
-use Rattle.sheet.specs.Table.{Table, wordsOf, headerOk, width, occurrence, fieldOk, rowOk, broken, tableOf}
-
-unfoldable pub mostIn : ℕ → ℕ
-mostIn i = cond (occurrence i) 1 99999
+use Rattle.sheet.specs.Table.{Table, wordsOf, headerOk, width, fieldOk, rowOk, broken, tableOf}
 
 -- How many of the first w fields pass before one that does not.
 abbrev pub passing : ℕ → List (List ℕ) → ℕ
@@ -35,20 +29,6 @@ unfoldable pub rowsRead : ℕ → ℕ → List (List ℕ) → List ℕ
 rowsRead w zero L = []
 rowsRead w (suc m) [] = []
 rowsRead w (suc m) (l ∷ L) = rowRead w l ++ cond (rowOk w l) (rowsRead w m L) []
-
-pub record RowRead (w : ℕ) (l c : List ℕ) (at : ℕ) (r : Row) (c′ : List ℕ) : Type 0 where
-  pub good : r .good ≡ rowOk w l
-  pub cells : Adds (rowRead w l) c at c′ (r .next)
-
--- Node v's line, from 0, may be l.
-abbrev pub nodeOk : ℕ → List (List ℕ) → ℕ → Bool
-nodeOk w L v = ltb v 256 && rowOk w (getD L v [])
-
-pub record RowsRead (w : ℕ) (L : List (List ℕ)) (c : List ℕ) (r : Rows) (c′ : List ℕ) : Type 0 where
-  pub nodes : r .n ≡ firstFail (length L) (nodeOk w L)
-  pub good : r .good ≡ eqb (r .n) (length L)
-  pub few : r .n ≤ 256
-  pub cells : c′ ≡ front (rowsRead w 256 L) c
 
 abbrev pub shapeOf : Table → Shape
 shapeOf T = record { p = T .positive; q = T .negative; n = T .nodes }

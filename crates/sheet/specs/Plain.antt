@@ -1,7 +1,7 @@
 -- The table in plain statements: what the tests of Table mean. proofs/Meaning.antt shows that they mean it.
 --   Header l   == l is the header of p positive and q negative words, 1 to 8 words, at least one positive
 --   Row w l    == l has w fields, each a number of 1 to 5 digits with no leading zero but 0 itself; where one says whether a word occurs it is 0 or 1
---   Lawful L   == every line of a text with the lines L keeps the rules
+--   LawfulLines L   == every line of a text with the lines L keeps the rules
 --   First L i  == line i, from 0, breaks a rule, and every line before it keeps them
 --   Told s r   == what the outcome r of reading says of the text s: INPUT at place 0, too long; at another place, the first line, from 1, that
 --                 breaks a rule; a table, no line breaks one
@@ -33,7 +33,7 @@ pub record Row (w : ℕ) (l : List ℕ) : Type 0 where
 abbrev pub Keeps : List (List ℕ) → ℕ → Type 0
 Keeps L i = lineOk (wordsOf (getD L 0 [])) i (getD L i []) ≡ true
 
-pub record Lawful (L : List (List ℕ)) : Type 0 where
+pub record LawfulLines (L : List (List ℕ)) : Type 0 where
   pub keeps : (i : ℕ) → i < length L → Keeps L i
 
 pub record First (L : List (List ℕ)) (i : ℕ) : Type 0 where
@@ -44,4 +44,4 @@ pub record First (L : List (List ℕ)) (i : ℕ) : Type 0 where
 unfoldable pub Told : List ℕ → Read → Type 0
 Told s (Broken zero) = 16384 < length s
 Told s (Broken (suc i)) = (length s ≤ 16384) × First (lines s) i
-Told s (Taken t) = (length s ≤ 16384) × (Lawful (lines s) × (t ≡ shapeOf (tableOf (lines s))))
+Told s (Taken t) = (length s ≤ 16384) × (LawfulLines (lines s) × (t ≡ shapeOf (tableOf (lines s))))

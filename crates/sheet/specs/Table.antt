@@ -8,7 +8,7 @@
 --   lineOk k i l     == line i, from 0, may be l where there are k words; the line of a 257th node may be nothing
 --   broken L         == the first of the lines L, from 0, that breaks a rule, or their number where none does
 --   Table            == what is read: p, q, how many nodes there are, and the numbers on their lines
---   cell T v i       == the number in field i of node v's line
+--   fieldOf T v i       == the number in field i of node v's line
 -- Letters: s text, L its lines, l line, f field; T table; p positive, q negative, k words; v node, j word, i field. Laws are in proofs/. Assumes nothing.
 use Prim.Native.Nat.{ℕ, zero, suc, _+_, _*_, _%_}
 use mathlib.Core.List.{List, [], _∷_, _++_, map}
@@ -87,5 +87,5 @@ tableOf L = record {
 }
 
 -- The number in field i of node v's line.
-abbrev pub cell : Table → ℕ → ℕ → ℕ
-cell T v i = getD (T .cells) (v * width (T .positive + T .negative) + i) 0
+abbrev pub fieldOf : Table → ℕ → ℕ → ℕ
+fieldOf T v i = getD (T .cells) (v * width (T .positive + T .negative) + i) 0

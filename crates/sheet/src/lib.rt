@@ -11,7 +11,8 @@ ghost use mathlib.Core.Path.{_≡_};
 ghost use Prim.Native.Nat.{_≤_};
 ghost use lib.ListN.{length, drop};
 ghost use Rattle.text.specs.Text.{allLines};
-ghost use Rattle.sheet.specs.Contracts.{mostIn, RowRead, RowsRead, TableRead};
+ghost use Rattle.sheet.specs.Inner.{mostIn, RowRead, RowsRead};
+ghost use Rattle.sheet.specs.Contracts.{TableRead};
 
 // A table: p positive and q negative words, n nodes.
 pub struct Shape {
@@ -27,13 +28,13 @@ pub enum Read {
 }
 
 // Whether a node line is good, and the next place in the cells.
-struct Row {
+struct NodeLine {
     pub good: bool,
     pub next: usize,
 }
 
 // How many node lines are good, and whether these are all.
-struct Rows {
+struct NodeLines {
     pub good: bool,
     pub n: usize,
 }
@@ -52,7 +53,7 @@ fn most(i: usize) -> u32
 }
 
 // Reads a node line of so many fields. The numbers before the first bad field are put behind the cells.
-fn read_row(l: &[u8], width: usize, cells: &mut [u32], at: usize) -> Row
+fn read_row(l: &[u8], width: usize, cells: &mut [u32], at: usize) -> NodeLine
     ensures { λ r. ⌜ RowRead width (now (l .entry)) (now (cells .entry)) at r (now (cells .exit)) ⌝ }
 {
     let mut next = at;
@@ -62,12 +63,12 @@ fn read_row(l: &[u8], width: usize, cells: &mut [u32], at: usize) -> Row
         let to = field_end(l, from);
         let x = number(&l[from..to]);
         if most(i) < x {
-            return Row { good: false, next };
+            return NodeLine { good: false, next };
         }
         next = put_word(&mut *cells, next, x);
         i += 1;
         if to == l.len() {
-            return Row {
+            return NodeLine {
                 good: i == width,
                 next,
             };
@@ -75,11 +76,11 @@ fn read_row(l: &[u8], width: usize, cells: &mut [u32], at: usize) -> Row
         from = to + 1;
     }
     // a field too many
-    Row { good: false, next }
+    NodeLine { good: false, next }
 }
 
 // Reads the node lines from a place of the text on, at most 256. Their numbers go to the front of the cells.
-fn read_rows(s: &[u8], at: usize, width: usize, cells: &mut [u32]) -> Rows
+fn read_rows(s: &[u8], at: usize, width: usize, cells: &mut [u32]) -> NodeLines
     requires { ⌜ at ≤ length (now s) ⌝ }
     ensures { λ r. ⌜ RowsRead width (allLines (drop at (now (s .entry)))) (now (cells .entry)) r (now (cells .exit)) ⌝ }
 {
@@ -88,18 +89,18 @@ fn read_rows(s: &[u8], at: usize, width: usize, cells: &mut [u32]) -> Rows
     let mut from = at;
     while from < s.len() {
         if v == 256 {
-            return Rows { good: false, n: v };
+            return NodeLines { good: false, n: v };
         }
         let to = line_end(s, from);
         let row = read_row(&s[from..to], width, &mut *cells, next);
         if !row.good {
-            return Rows { good: false, n: v };
+            return NodeLines { good: false, n: v };
         }
         next = row.next;
         v += 1;
         from = seq::least(to + 2, s.len());
     }
-    Rows { good: true, n: v }
+    NodeLines { good: true, n: v }
 }
 
 // Reads a table. Length is tested first, then the header, then each further line.

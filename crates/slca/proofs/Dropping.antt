@@ -19,8 +19,9 @@ use Rattle.seq.proofs.Laws.Below.{some-ext, some-of, some-none}
 use Rattle.seq.proofs.Laws.Gather.{length-tabulate, getD-tabulate}
 use Rattle.tree.specs.Tree.{parent, child}
 use Rattle.tree.proofs.Laws.Children.{child-root, child-of, parent-less}
-use Rattle.slca.specs.Marks.{markBy, marksOf}
-use Rattle.slca.specs.Contracts.{DropPre}
+use Rattle.slca.specs.Marks.{markBy}
+use Rattle.slca.specs.Inner.{marksOf}
+use Rattle.slca.specs.Inner.{DropPre}
 
 -- The flags as lent say which nodes are full.
 abbrev pub isFull : List ℕ → ℕ → Bool

@@ -3,7 +3,7 @@
 --   marks-are       what `mark_slca` makes of them are the marks
 --   mark-slca       a node is marked 1 exactly where it is an SLCA
 --   marked-over ..  what `flag_slca` leaves in work where it accepts
---   marked-unique, searched-unique   no second outcome fits a contract
+--   marked-unique, slca-unique   no second outcome fits a contract
 use Prim.Native.Nat.{ℕ, suc, _+_, _*_, _≤_, _<_}
 use mathlib.Core.Path.{_≡_, refl, sym, ap, ap₂, _∙_, subst}
 use mathlib.Core.Logic.{_⊎_, inl, inr, ⊎-elim}
@@ -41,8 +41,10 @@ use Rattle.listing.specs.Listing.{flagged, flaggedRows, flaggedReply, flaggedOu
 use Rattle.listing.proofs.Laws.{rows-by, reply-by}
 use Rattle.full.specs.Full.{fullBy, fullFlags}
 use Rattle.full.proofs.Laws.{fullFlags-at, length-fullFlags, fullBy-is}
-use Rattle.slca.specs.Marks.{markBy, marksOf, marksBy, slcaMarks}
-use Rattle.slca.specs.Contracts.{Marked, Searched, DropPre, MarksPre}
+use Rattle.slca.specs.Marks.{markBy, slcaMarks}
+use Rattle.slca.specs.Inner.{marksOf, marksBy}
+use Rattle.slca.specs.Contracts.{Marked, SlcaSearched}
+use Rattle.slca.specs.Inner.{DropPre, MarkSlcaPre}
 
 module _ (I : Index) (w : ℕ) (s : Sized 8 I w) (R : Right I) where
   -- The counts of the positive words.
@@ -122,7 +124,7 @@ unfolding marksBy marksOf
 length-marksBy p cs = length-tabulate (length p) _
 
 -- ---- `mark_slca`: f the flags once they are made of the counts
-module _ (p cs fl : List ℕ) (pre : MarksPre p cs fl) (f : List ℕ) (e : f ≡ fullFlags cs (length fl)) where
+module _ (p cs fl : List ℕ) (pre : MarkSlcaPre p cs fl) (f : List ℕ) (e : f ≡ fullFlags cs (length fl)) where
   flags-are : f ≡ fullFlags cs (length p)
   flags-are = e ∙ ap (fullFlags cs) (pre .long)
 
@@ -163,7 +165,7 @@ module _ (I : Index) (w : List ℕ) (r : Reply) (w₁ : List ℕ) (c : Checked I
     pub mark-nodes : nodes I ≤ length w₁
     mark-nodes = omega (arith, check-length, nodes-in I (length w) s R)
 
-    pub mark-pre : MarksPre (I .parents) (take (k * nodes I) (I .counts)) (take (nodes I) w₁)
+    pub mark-pre : MarkSlcaPre (I .parents) (take (k * nodes I) (I .counts)) (take (nodes I) w₁)
     mark-pre = record {
       long = length-take-le (nodes I) w₁ mark-nodes;
       full = subst (λ (z : ℕ). DropPre (I .parents) (fullFlags (take z (I .counts)) (nodes I))) (sym rows-same) (drop-pre I (length w) s R);
@@ -242,7 +244,7 @@ module _ (I : Index) (w : List ℕ) (r : Reply) (w₁ : List ℕ) (m : Marked I 
 
 -- ---- `slca`
 module _ (I : Index) (w o : List ℕ) where
-  pub slca-negative : (I .negative ≡ 0 → ⊥) → Searched I w o (refused SIZE 0) w o
+  pub slca-negative : (I .negative ≡ 0 → ⊥) → SlcaSearched I w o (refused SIZE 0) w o
   unfolding slcaReply slcaOut
   slca-negative ne =
       let e : slcaReply I w o ≡ refused SIZE 0 = checked-size 0 I (length w) _ (negative-size I (length w) ne) in
@@ -256,7 +258,7 @@ module _ (I : Index) (w o : List ℕ) where
       size-refuses q = omega arith
 
   module _ (z : I .negative ≡ 0) (r : Reply) (w₁ : List ℕ) (m : Marked I w r w₁) where
-    pub slca-refused : (r .refusal ≡ accepted → ⊥) → Searched I w o r w₁ o
+    pub slca-refused : (r .refusal ≡ accepted → ⊥) → SlcaSearched I w o r w₁ o
     unfolding slcaReply slcaOut
     slca-refused ne =
         let same : slcaReply I w o ≡ checkReply I w = none-checked I z (length w) _ ∙ checked-refused I w _ (marked-refuses I w r w₁ m ne) in
@@ -277,7 +279,7 @@ module _ (I : Index) (w o : List ℕ) where
       listed-slca = marked-slca I (length w) (marked-sized I w r w₁ m e) (marked-right I w r w₁ m e)
 
       pub slca-accepted : (r′ : Reply) (o′ c : List ℕ) → Listed (take (nodes I) w₁) o r′ o′ → c ≡ replicate (length (take (nodes I) w₁)) 0 →
-          Searched I w o r′ (c ++ drop (nodes I) w₁) o′
+          SlcaSearched I w o r′ (c ++ drop (nodes I) w₁) o′
       unfolding slcaReply slcaOut flaggedOut
       slca-accepted r′ o′ c l q =
           let few : nodes I ≤ 65536 = marked-sized I w r w₁ m e .fewNodes in
@@ -297,5 +299,5 @@ module _ (I : Index) (w o : List ℕ) where
 pub marked-unique : (I : Index) (w : List ℕ) (r r′ : Reply) (w′ w″ : List ℕ) → Marked I w r w′ → Marked I w r′ w″ → (r ≡ r′) × (w′ ≡ w″)
 marked-unique I w r r′ w′ w″ a b = (a .reply ∙ sym (b .reply), a .work ∙ sym (b .work))
 
-pub searched-unique : (I : Index) (w o : List ℕ) (r r′ : Reply) (w′ w″ o′ o″ : List ℕ) → Searched I w o r w′ o′ → Searched I w o r′ w″ o″ → (r ≡ r′) × (w′ ≡ w″) × (o′ ≡ o″)
-searched-unique I w o r r′ w′ w″ o′ o″ a b = (a .reply ∙ sym (b .reply), a .work ∙ sym (b .work), a .out ∙ sym (b .out))
+pub slca-unique : (I : Index) (w o : List ℕ) (r r′ : Reply) (w′ w″ o′ o″ : List ℕ) → SlcaSearched I w o r w′ o′ → SlcaSearched I w o r′ w″ o″ → (r ≡ r′) × (w′ ≡ w″) × (o′ ≡ o″)
+slca-unique I w o r r′ w′ w″ o′ o″ a b = (a .reply ∙ sym (b .reply), a .work ∙ sym (b .work), a .out ∙ sym (b .out))

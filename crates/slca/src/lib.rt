@@ -2,8 +2,9 @@
 // Entry points: `slca`, the search, and `flag_slca`, the marks that the search with NOT starts from.
 ghost use mathlib.Core.Path.{_≡_};
 ghost use Rattle.index.specs.Contracts.{lent};
-ghost use Rattle.slca.specs.Marks.{marksOf, marksBy};
-ghost use Rattle.slca.specs.Contracts.{Marked, Searched, DropPre, MarksPre};
+ghost use Rattle.slca.specs.Inner.{marksOf, marksBy};
+ghost use Rattle.slca.specs.Contracts.{Marked, SlcaSearched};
+ghost use Rattle.slca.specs.Inner.{DropPre, MarkSlcaPre};
 use index::Reply;
 
 // From flags of full nodes: a full node with a full child becomes 2. From the last node to the first, a full node marks its parent.
@@ -23,7 +24,7 @@ fn drop_above(parents: &[u32], flags: &mut [u32])
 
 // The marks of the full nodes, from counts of whole rows: flags of full nodes first, then those with a full child.
 fn mark_slca(parents: &[u32], counts: &[u32], flags: &mut [u32])
-    requires { ⌜ MarksPre (now parents) (now counts) (now flags) ⌝ }
+    requires { ⌜ MarkSlcaPre (now parents) (now counts) (now flags) ⌝ }
     ensures { λ r. ⌜ now (flags .exit) ≡ marksBy (now (parents .entry)) (now (counts .entry)) ⌝ }
 {
     full::flag_full(counts, &mut *flags);
@@ -72,7 +73,7 @@ pub fn slca(
     work: &mut [u32],
     out: &mut [u32],
 ) -> Reply
-    ensures { λ r. ⌜ Searched (lent (now (parents .entry)) (now (tags .entry)) p q (now (ends .entry)) (now (occurrences .entry))
+    ensures { λ r. ⌜ SlcaSearched (lent (now (parents .entry)) (now (tags .entry)) p q (now (ends .entry)) (now (occurrences .entry))
         (now (counts .entry))) (now (work .entry)) (now (out .entry)) r (now (work .exit)) (now (out .exit)) ⌝ }
 {
     if q != 0 {

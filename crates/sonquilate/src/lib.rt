@@ -1,9 +1,9 @@
 // The C interface: each function is one entry of a crate below it, under the name and with the parameters that include/sonquilate.h declares.
 // A slice is a pointer and then a length. What a function promises is what the function that it calls promises.
 ghost use Rattle.index.specs.Contracts.{lent, Checked};
-ghost use Rattle.slca.specs.Contracts as slcas;
-ghost use Rattle.elca.specs.Contracts as elcas;
-ghost use Rattle.valid.specs.Contracts as valids;
+ghost use Rattle.slca.specs.Contracts.{SlcaSearched};
+ghost use Rattle.elca.specs.Contracts.{ElcaSearched};
+ghost use Rattle.valid.specs.Contracts.{ValidSearched};
 use index::Reply;
 
 // The index check alone.
@@ -38,7 +38,7 @@ pub extern "C" fn sq_elca(
     out: &mut [u32],
     own: &mut [u32],
 ) -> Reply
-    ensures { λ r. ⌜ elcas.Searched (lent (now (parents .entry)) (now (tags .entry)) p q (now (ends .entry)) (now (occurrences .entry))
+    ensures { λ r. ⌜ ElcaSearched (lent (now (parents .entry)) (now (tags .entry)) p q (now (ends .entry)) (now (occurrences .entry))
         (now (counts .entry))) (now (work .entry)) (now (out .entry)) (now (own .entry)) r (now (work .exit)) (now (out .exit)) (now (own .exit)) ⌝ }
 {
     elca::elca(
@@ -68,7 +68,7 @@ pub extern "C" fn sq_slca(
     work: &mut [u32],
     out: &mut [u32],
 ) -> Reply
-    ensures { λ r. ⌜ slcas.Searched (lent (now (parents .entry)) (now (tags .entry)) p q (now (ends .entry)) (now (occurrences .entry))
+    ensures { λ r. ⌜ SlcaSearched (lent (now (parents .entry)) (now (tags .entry)) p q (now (ends .entry)) (now (occurrences .entry))
         (now (counts .entry))) (now (work .entry)) (now (out .entry)) r (now (work .exit)) (now (out .exit)) ⌝ }
 {
     slca::slca(parents, tags, p, q, ends, occurrences, counts, work, out)
@@ -87,7 +87,7 @@ pub extern "C" fn sq_valid(
     work: &mut [u32],
     out: &mut [u32],
 ) -> Reply
-    ensures { λ r. ⌜ valids.Searched (lent (now (parents .entry)) (now (tags .entry)) p q (now (ends .entry)) (now (occurrences .entry))
+    ensures { λ r. ⌜ ValidSearched (lent (now (parents .entry)) (now (tags .entry)) p q (now (ends .entry)) (now (occurrences .entry))
         (now (counts .entry))) (now (work .entry)) (now (out .entry)) r (now (work .exit)) (now (out .exit)) ⌝ }
 {
     valid::valid(parents, tags, p, q, ends, occurrences, counts, work, out)

@@ -38,8 +38,8 @@ use Rattle.text.proofs.Laws.Buffers.{front-take}
 use Rattle.sheet.specs.declared.Shape.{Shape}
 use Rattle.sheet.specs.declared.Read.{Read}
 use Rattle.sheet.specs.declared.Read.the-variants.{Broken, Taken}
-use Rattle.sheet.specs.Table.{Table, cell, tableOf}
-use Rattle.sheet.specs.Plain.{Lawful, First}
+use Rattle.sheet.specs.Table.{Table, fieldOf, tableOf}
+use Rattle.sheet.specs.Plain.{LawfulLines, First}
 use Rattle.sheet.specs.Contracts.{readOf}
 use Rattle.sheet.proofs.Laws.Reading.{taken-at}
 use Rattle.sheet.proofs.Meaning.{input-long, input-first, input-none}
@@ -57,7 +57,7 @@ module _ (s : List ℕ) (h : length s ≤ 16384) where
   pub output-first : (i : ℕ) → First (lines s) i → tableOutput s ≡ headText ++ inputText (suc i)
   output-first i f = sym (output-broken s (suc i) (readOf s) refl (input-first s h i f))
 
-  pub output-lawful : Lawful (lines s) → tableOutput s ≡ headText ++ answersText (tableOf (lines s))
+  pub output-lawful : LawfulLines (lines s) → tableOutput s ≡ headText ++ answersText (tableOf (lines s))
   output-lawful l = sym (output-table s _ (readOf s) refl (input-none s h l))
 
 -- ---- the lines of a search
@@ -91,8 +91,8 @@ output-no-nodes T e =
     (ap₂ _++_ (size-line (bytes "slca") 0 (indexOf T (T .positive) 0) 2560 _ _ none)
     (size-line (bytes "valid") 8 (indexOf T (T .positive) (T .negative)) 2560 _ _ none))
   where
-    none : length (tabulate (T .nodes) (λ v. cell T v 0)) ≡ 0
-    none = length-tabulate (T .nodes) (λ v. cell T v 0) ∙ e
+    none : length (tabulate (T .nodes) (λ v. fieldOf T v 0)) ≡ 0
+    none = length-tabulate (T .nodes) (λ v. fieldOf T v 0) ∙ e
 
 -- ---- LIST and ROOM
 -- A reply that is neither.

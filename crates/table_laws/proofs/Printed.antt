@@ -23,7 +23,7 @@ use Rattle.seq.proofs.Laws.Members.{listed-of-rising}
 use Rattle.index.specs.Index.{Index, nodes, words, start, wordList}
 use Rattle.text.specs.Text.{lines}
 use Rattle.sheet.specs.declared.Read.the-variants.{Taken}
-use Rattle.sheet.specs.Table.{Table, width, occurrence, cell, tableOf}
+use Rattle.sheet.specs.Table.{Table, width, occurrence, fieldOf, tableOf}
 use Rattle.sheet.specs.Contracts.{readOf}
 use Rattle.sheet.specs.Printed.{allRows, inRow, Printable}
 use Rattle.sheet.proofs.Printed.{printed-table, printed-read, rows-cell}
@@ -160,7 +160,7 @@ module _ (I : Index) (t : Tabular I) where
       printed-table (I .positive) (I .negative) (rowsOf I) printable
       ∙ (λ i. record { positive = I .positive; negative = I .negative; nodes = size i; cells = allRows (rowsOf I) })
 
-  cell-is : (v i : ℕ) → v < nodes I → i < width (words I) → cell T v i ≡ numberAt I v i
+  cell-is : (v i : ℕ) → v < nodes I → i < width (words I) → fieldOf T v i ≡ numberAt I v i
   cell-is v i l h = rows-cell (width (words I)) (rowsOf I) v i wide (omega (arith, size)) h ∙ in-row I v i l h
 
   -- ---- its lists
@@ -215,8 +215,8 @@ module _ (I : Index) (t : Tabular I) where
   index-is : indexOf T (I .positive) (I .negative) ≡ I
   unfolding indexOf numberAt
   index-is = λ i. record {
-    parents = tabled (nodes I) (λ v. cell T v 0) (I .parents) refl (λ v l. cell-is v 0 l (omega arith)) i;
-    tags = tabled (nodes I) (λ v. cell T v 1) (I .tags) (t .tagged) (λ v l. cell-is v 1 l (omega arith)) i;
+    parents = tabled (nodes I) (λ v. fieldOf T v 0) (I .parents) refl (λ v l. cell-is v 0 l (omega arith)) i;
+    tags = tabled (nodes I) (λ v. fieldOf T v 1) (I .tags) (t .tagged) (λ v l. cell-is v 1 l (omega arith)) i;
     positive = I .positive;
     negative = I .negative;
     ends = tabled (words I) (endOf T) (I .ends) (t .ended) end-is i;
@@ -239,8 +239,8 @@ module _ (I : Index) (t : Tabular I) where
   part-is : indexOf T (I .positive) 0 ≡ positivePart I
   unfolding indexOf numberAt positivePart
   part-is = λ i. record {
-    parents = tabled (nodes I) (λ v. cell T v 0) (I .parents) refl (λ v l. cell-is v 0 l (omega arith)) i;
-    tags = tabled (nodes I) (λ v. cell T v 1) (I .tags) (t .tagged) (λ v l. cell-is v 1 l (omega arith)) i;
+    parents = tabled (nodes I) (λ v. fieldOf T v 0) (I .parents) refl (λ v l. cell-is v 0 l (omega arith)) i;
+    tags = tabled (nodes I) (λ v. fieldOf T v 1) (I .tags) (t .tagged) (λ v l. cell-is v 1 l (omega arith)) i;
     positive = I .positive;
     negative = 0;
     ends = tabled-first (I .positive) (I .positive + 0) (endOf T) (I .ends) (add-zero (I .positive)) (omega (arith, t .ended)) (λ j l. end-is j (omega arith)) i;

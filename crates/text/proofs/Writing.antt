@@ -9,7 +9,7 @@ use borrow.Author.Tests.{ne-eqb}
 use lib.ListN.{length, set, take, drop, length-set, length-drop, drop-of-length-le}
 use lib.Seq.{take-all, drop-cons, drop-set-lt, getD-set-same}
 use Rattle.text.specs.Text.{digitsIn, decimal}
-use Rattle.text.specs.Buffers.{Digits}
+use Rattle.text.specs.Inner.{Digits}
 
 pub record Figuring (n : ℕ) (d : List ℕ) (rest i : ℕ) : Type 0 where
   pub within : i ≤ 10

@@ -4,12 +4,11 @@
 --   Adds t out at out′ r  == t has been put behind whatever was written to a buffer up to the place `at`, and r is the next place;
 --                            at a place past the buffer's end nothing is written, and the place stays
 -- Letters: w what is written, o what was lent, t what is added. Laws are in proofs/Laws. Assumes nothing.
-use Prim.Native.Nat.{ℕ, min, _≤_, _<_}
+use Prim.Native.Nat.{ℕ, min, _<_}
 use mathlib.Core.Path.{_≡_}
 use mathlib.Core.List.{List, _++_}
-use lib.ListN.{length, take, drop}
+use lib.ListN.{length, take}
 use Rattle.seq.specs.Memory.{over}
-use Rattle.text.specs.Text.{digitsIn}
 
 unfoldable pub front : List ℕ → List ℕ → List ℕ
 front w o = over (take (length o) w) o
@@ -22,8 +21,3 @@ pub record Adds (t out : List ℕ) (at : ℕ) (out′ : List ℕ) (r : ℕ) : Ty
   pub adds : (w o : List ℕ) → Wrote w o out at → Wrote (w ++ t) o out′ r
   pub pastOut : length out < at → out′ ≡ out
   pub pastNext : length out < at → r ≡ at
-
--- The digits of n stand at the end of the ten bytes d, from r on.
-pub record Digits (n : ℕ) (d : List ℕ) (r : ℕ) : Type 0 where
-  pub within : r ≤ 10
-  pub stand : drop r d ≡ digitsIn 10 n

@@ -1,3 +1,4 @@
 pub mod Text
 pub mod Plain
 pub mod Buffers
+pub mod Inner

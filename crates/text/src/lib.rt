@@ -5,7 +5,8 @@ ghost use Prim.Native.Nat.{_+_};
 ghost use mathlib.Core.List.{_∷_, []};
 ghost use lib.ListN.{length, drop};
 ghost use Rattle.text.specs.Text.{ended, lineLength, fieldLength, numberOr, decimal};
-ghost use Rattle.text.specs.Buffers.{Adds, Digits};
+ghost use Rattle.text.specs.Buffers.{Adds};
+ghost use Rattle.text.specs.Inner.{Digits};
 
 // More than any number of five digits: what a field that is no number gives.
 const NONE: u32 = 100000;

@@ -10,8 +10,8 @@ use Rattle.seq.proofs.Laws.Bools.{and-left, and-right, and-both}
 use Rattle.seq.proofs.Laws.Below.{Found, some-at, some-of}
 use Rattle.tree.specs.Tree.{parent, child}
 use Rattle.answers.specs.Classes.{sibling, twin}
-use Rattle.twins.specs.Order.{tag}
-use Rattle.twins.specs.Flags.{kin}
+use Rattle.twins.specs.Inner.Order.{tag}
+use Rattle.twins.specs.Inner.Flags.{kin}
 
 pub record Kin (p t : List ℕ) (v u : ℕ) : Type 0 where
   pub one : 0 < v

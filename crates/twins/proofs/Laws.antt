@@ -20,7 +20,7 @@ use Rattle.seq.proofs.Laws.Gather.{length-tabulate}
 use Rattle.tree.specs.Tree.{parent}
 use Rattle.answers.specs.Classes.{twin}
 use Rattle.twins.specs.Twins.{twinFlag, fitsTwins, flagRows, twinRows}
-use Rattle.twins.specs.Flags.{MakePre}
+use Rattle.twins.specs.Inner.Flags.{MakePre}
 
 -- In a tree, where every parent is a node, the flag says whether the node has a twin.
 pub twinFlag-is : (p t : List ℕ) (v : ℕ) → parent p v < length p → twinFlag p t v ≡ cond (twin p t v) 1 0

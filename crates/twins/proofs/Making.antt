@@ -13,8 +13,8 @@ use Rattle.seq.specs.Below.{tabulate}
 use Rattle.seq.proofs.Laws.Gather.{length-tabulate, getD-tabulate}
 use Rattle.seq.proofs.Laws.Parts.{put-long, put-before, put-inside, put-after}
 use Rattle.twins.specs.Twins.{twinFlag, flagRows}
-use Rattle.twins.specs.Order.{entry, SortPre, Sorted}
-use Rattle.twins.specs.Flags.{FlagPre, Flagged, MakePre}
+use Rattle.twins.specs.Inner.Order.{entry, SortPre, Sorted}
+use Rattle.twins.specs.Inner.Flags.{FlagPre, Flagged, MakePre}
 
 -- ---- the rows
 module _ (p t w : List ℕ) (pre : MakePre p t w) where

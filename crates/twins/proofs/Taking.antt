@@ -19,8 +19,8 @@ use Rattle.seq.proofs.Laws.Below.{Found}
 use Rattle.tree.specs.Tree.{parent}
 use Rattle.answers.specs.Classes.{twin}
 use Rattle.twins.specs.Twins.{twinFlag}
-use Rattle.twins.specs.Order.{tag, entry}
-use Rattle.twins.specs.Flags.{before, noted, TakenUp, skipped, alone, paired, TakePre, FlagPre, Flagged}
+use Rattle.twins.specs.Inner.Order.{tag, entry}
+use Rattle.twins.specs.Inner.Flags.{takenBefore, noted, TakenUp, skipped, alone, paired, TakeUpPre, FlagPre, Flagged}
 use Rattle.twins.proofs.Places.{Once, once-found}
 use Rattle.twins.proofs.Kin.{Kin, kin-back, twin-of, Twin, twin-at}
 
@@ -89,7 +89,7 @@ module _ (p t : List ℕ) (at last : ℕ) (w₀ : List ℕ) (pre : FlagPre p t a
     last-below : (P : ℕ) → P < length p → getD w (last + P) 0 < length p
     last-below P l = ⊎-elim (λ r. omega (arith, r .is)) (λ r. late-below P _ r) (s .lasts P l)
 
-    pub take-pre : TakePre p t last v w
+    pub take-pre : TakeUpPre p t last v w
     take-pre = record {
       few = pre .few;
       node = omega (arith, is-here, node i h);
@@ -100,21 +100,21 @@ module _ (p t : List ℕ) (at last : ℕ) (w₀ : List ℕ) (pre : FlagPre p t a
     }
 
     -- A kin of v that was taken up shows in the last child of v's parent: that one has v's tag.
-    met : (q : ℕ) → q < i → parent p v < length p → Kin p t (o q) v → (before p last v w ≡ 0 → ⊥) × (tag t (before p last v w) ≡ tag t v)
+    met : (q : ℕ) → q < i → parent p v < length p → Kin p t (o q) v → (takenBefore p last v w ≡ 0 → ⊥) × (tag t (takenBefore p last v w) ≡ tag t v)
     met q lq lp k = ⊎-elim (λ r. absurd (r .none q lq (k .one) (k .parents))) (λ r. (found r, same r)) (s .lasts (parent p v) lp)
       where
-        found : Late p o i (parent p v) (before p last v w) → before p last v w ≡ 0 → ⊥
+        found : Late p o i (parent p v) (takenBefore p last v w) → takenBefore p last v w ≡ 0 → ⊥
         found r e = omega (arith, r .is, r .some)
 
-        up : Late p o i (parent p v) (before p last v w) → tag t (o q) ≤ tag t (o i)
+        up : Late p o i (parent p v) (takenBefore p last v w) → tag t (o q) ≤ tag t (o i)
         up r = pre .order .rising q i lq h
 
-        reach : (r : Late p o i (parent p v) (before p last v w)) → tag t (o q) ≤ tag t (o (r .place))
+        reach : (r : Late p o i (parent p v) (takenBefore p last v w)) → tag t (o q) ≤ tag t (o (r .place))
         reach r =
             ⊎-elim (λ (z : q ≡ r .place). omega (arith, ap (λ (y : ℕ). tag t (o y)) z)) (λ z. pre .order .rising q (r .place) z (omega (arith, r .taken)))
             (eq-or-lt-of-le (r .latest q lq (k .one) (k .parents)))
 
-        same : Late p o i (parent p v) (before p last v w) → tag t (before p last v w) ≡ tag t v
+        same : Late p o i (parent p v) (takenBefore p last v w) → tag t (takenBefore p last v w) ≡ tag t v
         same r =
             omega (arith, ap (tag t) (r .is), reach r, pre .order .rising (r .place) i (r .taken) h, ap (tag t) is-here, k .tags)
 
@@ -212,7 +212,7 @@ module _ (p t : List ℕ) (at last : ℕ) (w₀ : List ℕ) (pre : FlagPre p t a
               (s .lasts P l)
 
       -- Where none of its kin was taken up before it, v is only noted.
-      lone : ((before p last v w ≡ 0 → ⊥) × (tag t (before p last v w) ≡ tag t v) → ⊥) → Taking p t at last w₀ w₁ (i + 1)
+      lone : ((takenBefore p last v w ≡ 0 → ⊥) × (tag t (takenBefore p last v w) ≡ tag t v) → ⊥) → Taking p t at last w₀ w₁ (i + 1)
       lone apart = record {
         within = omega arith;
         long = long₁;
@@ -236,9 +236,9 @@ module _ (p t : List ℕ) (at last : ℕ) (w₀ : List ℕ) (pre : FlagPre p t a
               (less-or a i)
 
       -- Where the last child of its parent has its tag, both are flagged.
-      module _ (ne : before p last v w ≡ 0 → ⊥) (te : tag t (before p last v w) ≡ tag t v) where
+      module _ (ne : takenBefore p last v w ≡ 0 → ⊥) (te : tag t (takenBefore p last v w) ≡ tag t v) where
         abbrev b : ℕ
-        b = before p last v w
+        b = takenBefore p last v w
 
         abbrev w₂ : List ℕ
         w₂ = set (set w₁ b 1) v 1
@@ -367,7 +367,7 @@ module _ (p t : List ℕ) (at last : ℕ) (w₀ : List ℕ) (pre : FlagPre p t a
           absurd (bool-not-both _ (and-both _ _ (lt-ltb (parent p v) (length p) (k .0)) (k .1)) q)) (s .binary v l)
 
 -- ---- one node: u is its parent and b the last child of that one, as the code has them
-module _ (p t : List ℕ) (last v : ℕ) (w : List ℕ) (pre : TakePre p t last v w) (some : v ≡ 0 → ⊥) (u : ℕ) (eu : u ≡ parent p v) where
+module _ (p t : List ℕ) (last v : ℕ) (w : List ℕ) (pre : TakeUpPre p t last v w) (some : v ≡ 0 → ⊥) (u : ℕ) (eu : u ≡ parent p v) where
   pub take-none : length p ≤ u → TakenUp p t last v w w
   take-none h = skipped (inr (omega arith)) refl
 
@@ -375,7 +375,7 @@ module _ (p t : List ℕ) (last v : ℕ) (w : List ℕ) (pre : TakePre p t last 
     pub take-cell : last + u < length w
     take-cell = omega (arith, pre .lasts)
 
-    cells : (b : ℕ) → b ≡ getD w (last + u) 0 → b ≡ before p last v w
+    cells : (b : ℕ) → b ≡ getD w (last + u) 0 → b ≡ takenBefore p last v w
     cells b e = e ∙ ap (λ (y : ℕ). getD w (last + y) 0) eu
 
     pub take-before : (b : ℕ) → b ≡ getD w (last + u) 0 → b < length p

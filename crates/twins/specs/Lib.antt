@@ -1,3 +1,2 @@
 pub mod Twins
-pub mod Order
-pub mod Flags
+pub mod Inner

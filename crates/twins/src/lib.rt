@@ -4,11 +4,11 @@ mod order;
 
 ghost use mathlib.Core.Path.{_≡_};
 ghost use Rattle.twins.specs.Twins.{flagRows, twinRows};
-ghost use Rattle.twins.specs.Flags.{TakenUp, TakePre, FlagPre, Flagged, MakePre};
+ghost use Rattle.twins.specs.Inner.Flags.{TakenUp, TakeUpPre, FlagPre, Flagged, MakePre};
 
 // Takes up node v, where `last` is the row of the last children taken up. It and the last child of its parent are flagged if they have one tag.
 fn take_up(parents: &[u32], tags: &[u32], v: usize, last: usize, rows: &mut [u32])
-    requires { ⌜ TakePre (now parents) (now tags) last v (now rows) ⌝ }
+    requires { ⌜ TakeUpPre (now parents) (now tags) last v (now rows) ⌝ }
     ensures { λ r. ⌜ TakenUp (now (parents .entry)) (now (tags .entry)) last v (now (rows .entry)) (now (rows .exit)) ⌝ }
 {
     if v == 0 {
@@ -61,7 +61,7 @@ fn make_flags(parents: &[u32], tags: &[u32], rows: &mut [u32])
 }
 
 // For n = parents.len() nodes: the first n entries of rows become 1 where the node's parent is below n and another child of it has the node's tag, else 0;
-// the next 2n entries become 0, and the rest stays. Rows stay as lent where n is above 65,536, tags are not n long or rows are shorter than 3n.
+// the next 2n entries become 0, and the rest stays. TwoRows stay as lent where n is above 65,536, tags are not n long or rows are shorter than 3n.
 pub fn flag_twins(parents: &[u32], tags: &[u32], rows: &mut [u32])
     ensures { λ r. ⌜ now (rows .exit) ≡ twinRows (now (parents .entry)) (now (tags .entry)) (now (rows .entry)) ⌝ }
 {

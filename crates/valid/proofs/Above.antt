@@ -23,7 +23,7 @@ use Rattle.tree.proofs.Laws.Under.{under-le}
 use Rattle.tree.proofs.Laws.Ways.{Nearest, line-some, nearest-at, nearest-unique}
 use Rattle.answers.specs.Not.{valid}
 use Rattle.answers.proofs.Laws.Not.{valid-first, valid-suc}
-use Rattle.valid.specs.Tops.{topOf}
+use Rattle.valid.specs.Inner.Tops.{topOf}
 
 module _ (p : List ℕ) (d : Down p (length p)) (neg f : ℕ → Bool) where
   abbrev first : ℕ → ℕ

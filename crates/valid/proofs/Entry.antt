@@ -2,7 +2,7 @@
 --   valid-refused    what the index check refuses
 --   valid-without    no negative word: the SLCAs are listed
 --   valid-with       the valid ones among them are listed
---   searched-unique  no second outcome fits the contract
+--   valid-unique  no second outcome fits the contract
 -- Letters: I index; w, o what is lent as work and out; w₁ work as `flag_slca` leaves it, a its first four rows as `reject` leaves them; fl flags; v node.
 use Prim.Native.Nat.{ℕ, _+_, _-_, _*_, _≤_, _<_}
 use mathlib.Core.Path.{_≡_, refl, sym, ap, ap₂, _∙_}
@@ -32,7 +32,8 @@ use Rattle.listing.proofs.Laws.{listed-length, rows-by, reply-by}
 use Rattle.slca.specs.Marks.{slcaMarks}
 use Rattle.slca.specs.Contracts.{Marked}
 use Rattle.slca.proofs.Laws.{length-marks, marked-slca, marked-length, marked-refuses, marked-refused-work, marked-accepts, marked-sized, marked-right, marked-over, marked-nodes, marked-first, marked-cleared}
-use Rattle.valid.specs.Contracts.{Searched, validFlag, RejectPre, Rejected, Finished}
+use Rattle.valid.specs.Contracts.{ValidSearched}
+use Rattle.valid.specs.Inner.Steps.{validFlag, RejectPre, Rejected, Finished}
 
 -- The front of work, cleared.
 pub finish-work : (n : ℕ) (w : List ℕ) → n ≤ length w → (c : List ℕ) → c ≡ replicate (length (take n w)) 0 → c ++ drop n w ≡ zeroed n w
@@ -44,7 +45,7 @@ pub finish-length : (n : ℕ) (w o : List ℕ) (r : Reply) (w′ o′ : List ℕ
 finish-length n w o r w′ o′ f = listed-length (take n w) o r o′ (record { reply = f .reply; out = f .out })
 
 module _ (I : Index) (w o : List ℕ) (r : Reply) (w₁ : List ℕ) (m : Marked I w r w₁) where
-  pub valid-refused : (r .refusal ≡ accepted → ⊥) → Searched I w o r w₁ o
+  pub valid-refused : (r .refusal ≡ accepted → ⊥) → ValidSearched I w o r w₁ o
   unfolding validReply validOut
   valid-refused ne =
       let same : validReply I w o ≡ checkReply I w = checked-refused I w _ (marked-refuses I w r w₁ m ne) in
@@ -64,7 +65,7 @@ module _ (I : Index) (w o : List ℕ) (r : Reply) (w₁ : List ℕ) (m : Marked 
     -- Flags that say which nodes are valid SLCAs are listed, and cleared.
     flags-listed : (fl : List ℕ) → length fl ≡ nodes I → ((v : ℕ) → v < nodes I → flagged fl v ≡ isValid I v) →
         (w₂ : List ℕ) → take (nodes I) w₂ ≡ fl → zeroed (nodes I) w₂ ≡ workAfter 8 I w →
-        (r′ : Reply) (w₃ o′ : List ℕ) → Finished (nodes I) w₂ o r′ w₃ o′ → Searched I w o r′ w₃ o′
+        (r′ : Reply) (w₃ o′ : List ℕ) → Finished (nodes I) w₂ o r′ w₃ o′ → ValidSearched I w o r′ w₃ o′
     unfolding validReply validOut flaggedOut
     flags-listed fl long says w₂ front clear r′ w₃ o′ f =
         let same : flaggedReply (take (nodes I) w₂) (length o) ≡ validReply I w o =
@@ -84,7 +85,7 @@ module _ (I : Index) (w o : List ℕ) (r : Reply) (w₁ : List ℕ) (m : Marked 
           sym (ap (λ (q : ℕ). validSlca (I .parents) (I .positive) (wanted I) (negator (I .parents) (I .tags) q (unwanted I)) v) z
           ∙ valid-without-not (I .parents) (I .tags) (I .positive) (wanted I) (unwanted I) v)
 
-      pub valid-without : (r′ : Reply) (w₂ o′ : List ℕ) → Finished (nodes I) w₁ o r′ w₂ o′ → Searched I w o r′ w₂ o′
+      pub valid-without : (r′ : Reply) (w₂ o′ : List ℕ) → Finished (nodes I) w₁ o r′ w₂ o′ → ValidSearched I w o r′ w₂ o′
       valid-without =
           flags-listed (slcaMarks I) (length-marks I) (λ v l. marked-slca I (length w) sized right v l ∙ all-valid v) w₁ (marked-first I w r w₁ m e) (marked-cleared I w r w₁ m e)
 
@@ -181,10 +182,10 @@ module _ (I : Index) (w o : List ℕ) (r : Reply) (w₁ : List ℕ) (m : Marked 
             four : n + n * 3 ≡ n * 4
             four = omega arith
 
-        pub valid-with : (r′ : Reply) (w₃ o′ : List ℕ) → Finished n w₂ o r′ w₃ o′ → Searched I w o r′ w₃ o′
+        pub valid-with : (r′ : Reply) (w₃ o′ : List ℕ) → Finished n w₂ o r′ w₃ o′ → ValidSearched I w o r′ w₃ o′
         valid-with = flags-listed flags flags-long says w₂ front cleared
 
 -- ---- no second outcome fits
-pub searched-unique : (I : Index) (w o : List ℕ) (r r′ : Reply) (w′ w″ o′ o″ : List ℕ) → Searched I w o r w′ o′ → Searched I w o r′ w″ o″ →
+pub valid-unique : (I : Index) (w o : List ℕ) (r r′ : Reply) (w′ w″ o′ o″ : List ℕ) → ValidSearched I w o r w′ o′ → ValidSearched I w o r′ w″ o″ →
     (r ≡ r′) × (w′ ≡ w″) × (o′ ≡ o″)
-searched-unique I w o r r′ w′ w″ o′ o″ a b = (a .reply ∙ sym (b .reply), a .work ∙ sym (b .work), a .out ∙ sym (b .out))
+valid-unique I w o r r′ w′ w″ o′ o″ a b = (a .reply ∙ sym (b .reply), a .work ∙ sym (b .work), a .out ∙ sym (b .out))

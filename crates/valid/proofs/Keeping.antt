@@ -12,7 +12,7 @@ use Rattle.seq.specs.Lists.{someOf}
 use Rattle.seq.proofs.Laws.Lists.{someOf-ext}
 use Rattle.seq.proofs.Laws.Parts.{put-long, put-before, put-inside}
 use Rattle.index.specs.Index.{wordList}
-use Rattle.valid.specs.Tops.{topBy, PointPre, Pointed, points, WordsPre, SawWords, flagHere, SettlePre, Settled, keptFlag, KeepPre, Kept}
+use Rattle.valid.specs.Inner.Tops.{topBy, PointPre, Pointed, points, SeeWordsPre, SawWords, flagHere, SettlePre, Settled, keptFlag, KeepPre, Kept}
 use Rattle.valid.proofs.Reached.{reached-ext}
 
 -- The second of two rows, cleared.
@@ -51,7 +51,7 @@ module _ (p : List ℕ) (k : ℕ) (ends occ w : List ℕ) (pre : KeepPre p k end
       abbrev w₂ : List ℕ
       w₂ = cleared (length p) w₁ keep-long₁ c₁ e₁
 
-      pub keep-words-pre : WordsPre (length p) k ends occ w₂
+      pub keep-words-pre : SeeWordsPre (length p) k ends occ w₂
       keep-words-pre = record {
         few = pre .few;
         fewWords = pre .fewWords;

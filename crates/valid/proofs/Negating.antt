@@ -15,7 +15,7 @@ use Rattle.seq.specs.Lists.{someOf}
 use Rattle.seq.proofs.Laws.Bools.{bool-cases, bool-false, and-left, and-right, and-false-left, and-false-right, or-right}
 use Rattle.seq.proofs.Laws.Lists.{Entry, someOf-at, someOf-take-suc}
 use Rattle.tree.specs.Rules.{text}
-use Rattle.valid.specs.Tops.{negates, MarkPre, Negated}
+use Rattle.valid.specs.Inner.Tops.{negates, NegatePre, Negated}
 
 pub record Negating (l t c w : List ℕ) (i : ℕ) : Type 0 where
   pub within : i ≤ length l
@@ -23,7 +23,7 @@ pub record Negating (l t c w : List ℕ) (i : ℕ) : Type 0 where
   -- the first i entries of the list have been looked at
   pub holds : (v : ℕ) → v < length t → getD w v 0 ≡ cond (negates t c (take i l) v) (length t) (getD c v 0)
 
-pub negating-start : (l t c : List ℕ) → MarkPre l t c → Negating l t c c 0
+pub negating-start : (l t c : List ℕ) → NegatePre l t c → Negating l t c c 0
 unfolding negates someOf
 negating-start l t c pre = record { within = zero-le; long = pre .long; holds = λ v h. refl }
 
@@ -31,7 +31,7 @@ negates-suc : (l t c : List ℕ) (i : ℕ) → i < length l → (v : ℕ) → ne
 unfolding negates
 negates-suc l t c i h v = someOf-take-suc (λ x. text t x && eqb v (getD c x 0)) l i h
 
-module _ (l t c : List ℕ) (pre : MarkPre l t c) where
+module _ (l t c : List ℕ) (pre : NegatePre l t c) where
   -- No text node is negated.
   text-kept : (i : ℕ) → i ≤ length l → (x : ℕ) → getD t x 0 ≡ 0 → negates t c (take i l) x ≡ false
   unfolding negates text

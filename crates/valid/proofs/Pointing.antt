@@ -24,7 +24,7 @@ use Rattle.tree.specs.Tree.{parent}
 use Rattle.tree.specs.Plain.{Down}
 use Rattle.tree.proofs.Laws.Children.{parent-less}
 use Rattle.index.specs.Index.{start, wordList}
-use Rattle.valid.specs.Tops.{topAbove, topHere, topBy, AbovePre, PointPre, Pointed, SeePre, Saw, passed, saw, ListPre, pointsIn, SawList, reached, points, WordsPre, SawWords, flagHere, SettlePre, Settled}
+use Rattle.valid.specs.Inner.Tops.{topAbove, topHere, topBy, AbovePre, PointPre, Pointed, SeePre, Saw, passed, saw, SeeListPre, pointsIn, SawList, reached, points, SeeWordsPre, SawWords, flagHere, SettlePre, Settled}
 use Rattle.valid.proofs.Above.{topOf-first, topOf-suc}
 use Rattle.valid.proofs.Reached.{reached-zero, reached-suc}
 
@@ -140,7 +140,7 @@ pub record Seeing (n j : ℕ) (l w₀ w : List ℕ) (i : ℕ) : Type 0 where
   pub tops : (s : ℕ) → s < n → getD w s 0 ≡ getD w₀ s 0
   pub seen : (s : ℕ) → s < n → getD w (n + s) 0 ≡ seenBy n j (take i l) w₀ s
 
-module _ (n j : ℕ) (l w₀ : List ℕ) (pre : ListPre n j l w₀) where
+module _ (n j : ℕ) (l w₀ : List ℕ) (pre : SeeListPre n j l w₀) where
   pub seeing-start : Seeing n j l w₀ w₀ 0
   unfolding someOf
   seeing-start = record { within = zero-le; long = pre .long; tops = λ s h. refl; seen = λ s h. nothing (getD w₀ (n + s) 0) (eqb (getD w₀ (n + s) 0) j) }
@@ -228,7 +228,7 @@ pub record Words (n k : ℕ) (ends occ w₀ w : List ℕ) (j begin : ℕ) : Type
   pub tops : (s : ℕ) → s < n → getD w s 0 ≡ getD w₀ s 0
   pub seen : (s : ℕ) → s < n → getD w (n + s) 0 ≡ reached (points w₀ ends occ s) j
 
-module _ (n k : ℕ) (ends occ w₀ : List ℕ) (pre : WordsPre n k ends occ w₀) where
+module _ (n k : ℕ) (ends occ w₀ : List ℕ) (pre : SeeWordsPre n k ends occ w₀) where
   pub words-start : Words n k ends occ w₀ w₀ 0 0
   unfolding start
   words-start = record {
@@ -258,7 +258,7 @@ module _ (n k : ℕ) (ends occ w₀ : List ℕ) (pre : WordsPre n k ends occ w�
     part-below : EachBelow n part
     part-below = subst (EachBelow n) part-is (pre .words j h .list .below)
 
-    pub words-list-pre : ListPre n j part w
+    pub words-list-pre : SeeListPre n j part w
     words-list-pre = record { few = pre .few; word = omega (arith, pre .fewWords); list = part-below; long = s .long }
 
     pub words-step : (w′ : List ℕ) → SawList n j part w w′ → Words n k ends occ w₀ w′ (j + 1) to

@@ -8,7 +8,7 @@ use native.Mathlib.Omega.{arith}
 use lib.Dec.{eqb}
 use borrow.Author.Tests.{eq-eqb, eqb-true}
 use Rattle.seq.proofs.Laws.Bools.{bool-cases, and-left, and-right}
-use Rattle.valid.specs.Tops.{reached}
+use Rattle.valid.specs.Inner.Tops.{reached}
 
 pub reached-zero : (f : ℕ → Bool) → reached f 0 ≡ 0
 unfolding reached

@@ -34,8 +34,8 @@ use Rattle.answers.specs.Not.{negator}
 use Rattle.answers.proofs.Laws.Not.{closest-cases, closest-above}
 use Rattle.entities.specs.Closest.{closestRows}
 use Rattle.entities.proofs.Laws.{before-of, closest-fit, length-closestRows}
-use Rattle.valid.specs.Contracts.{validFlag, RejectPre, Rejected}
-use Rattle.valid.specs.Tops.{negates, MarkPre, Negated, flagHere, keptFlag, KeepPre, Kept}
+use Rattle.valid.specs.Inner.Steps.{validFlag, RejectPre, Rejected}
+use Rattle.valid.specs.Inner.Tops.{negates, NegatePre, Negated, flagHere, keptFlag, KeepPre, Kept}
 use Rattle.valid.proofs.Above.{topOf-ext}
 use Rattle.valid.proofs.Reached.{reached-ext}
 use Rattle.valid.proofs.Stretch.{stretch-some, stretch-within, stretch-below}
@@ -152,7 +152,7 @@ module _ (p t : List ℕ) (k : ℕ) (ends occ w : List ℕ) (pre : RejectPre p t
       lists-below : EachBelow n lists
       lists-below = stretch-below n ends occ (pre .words) k (length ends - k) all (pre .somePositive) begin eb
 
-      pub reject-mark-pre : MarkPre lists t row
+      pub reject-mark-pre : NegatePre lists t row
       reject-mark-pre = record {
         few = omega (arith, pre .few, pre .tagged);
         long = row-long ∙ sym (pre .tagged);

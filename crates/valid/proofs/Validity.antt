@@ -24,7 +24,7 @@ use Rattle.answers.specs.Answers.{slca}
 use Rattle.answers.specs.Not.{valid, validSlca}
 use Rattle.answers.proofs.Laws.Plain.{slca-full, slca-none}
 use Rattle.answers.proofs.Laws.Not.{valid-slca-at, valid-slca-of, valid-slca-slca}
-use Rattle.valid.specs.Tops.{topOf, reached, flagHere}
+use Rattle.valid.specs.Inner.Tops.{topOf, reached, flagHere}
 use Rattle.valid.proofs.Above.{TopAt, top-at, top-of}
 use Rattle.valid.proofs.Reached.{reached-at, reached-of}
 

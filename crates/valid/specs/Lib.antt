@@ -1,2 +1,2 @@
 pub mod Contracts
-pub mod Tops
+pub mod Inner

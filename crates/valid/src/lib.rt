@@ -8,12 +8,13 @@ use tops::keep;
 ghost use Prim.Native.Nat.{_≤_};
 ghost use lib.ListN.{length};
 ghost use Rattle.index.specs.Contracts.{lent};
-ghost use Rattle.valid.specs.Contracts.{Searched, RejectPre, Rejected, Finished};
-ghost use Rattle.valid.specs.Tops.{MarkPre, Negated};
+ghost use Rattle.valid.specs.Contracts.{ValidSearched};
+ghost use Rattle.valid.specs.Inner.Steps.{RejectPre, Rejected, Finished};
+ghost use Rattle.valid.specs.Inner.Tops.{NegatePre, Negated};
 
 // Over the closest entity of each node: n at the closest entity of each text node of the list. That makes it a negator.
 fn mark(list: &[u32], tags: &[u32], row: &mut [u32])
-    requires { ⌜ MarkPre (now list) (now tags) (now row) ⌝ }
+    requires { ⌜ NegatePre (now list) (now tags) (now row) ⌝ }
     ensures { λ r. ⌜ Negated (now (list .entry)) (now (tags .entry)) (now (row .entry)) (now (row .exit)) ⌝ }
 {
     let n = tags.len();
@@ -75,7 +76,7 @@ pub fn valid(
     work: &mut [u32],
     out: &mut [u32],
 ) -> Reply
-    ensures { λ r. ⌜ Searched (lent (now (parents .entry)) (now (tags .entry)) p q (now (ends .entry)) (now (occurrences .entry))
+    ensures { λ r. ⌜ ValidSearched (lent (now (parents .entry)) (now (tags .entry)) p q (now (ends .entry)) (now (occurrences .entry))
         (now (counts .entry))) (now (work .entry)) (now (out .entry)) r (now (work .exit)) (now (out .exit)) ⌝ }
 {
     let r = slca::flag_slca(parents, tags, p, q, ends, occurrences, counts, &mut *work);

@@ -2,7 +2,7 @@
 // Two rows of n entries are lent as one slice: entry v is the first row's, entry n + v the second's.
 ghost use mathlib.Core.Path.{_≡_};
 ghost use Prim.Native.Nat.{_≤_};
-ghost use Rattle.valid.specs.Tops.{topHere, AbovePre, topAbove, PointPre, Pointed, SeePre, Saw, ListPre, SawList, WordsPre, SawWords, flagHere, SettlePre, Settled, KeepPre, Kept};
+ghost use Rattle.valid.specs.Inner.Tops.{topHere, AbovePre, topAbove, PointPre, Pointed, SeePre, Saw, SeeListPre, SawList, SeeWordsPre, SawWords, flagHere, SettlePre, Settled, KeepPre, Kept};
 
 // The top of a node: n + 1 if it is a negator or its parent has that, else the node itself if it is marked, else the top of its parent.
 fn top_here(mark: u32, shut: u32, me: u32, above: u32, n: u32) -> u32
@@ -65,7 +65,7 @@ fn see(x: usize, j: u32, n: usize, rows: &mut [u32])
 
 // All occurrences of word j.
 fn see_list(list: &[u32], j: u32, n: usize, rows: &mut [u32])
-    requires { ⌜ ListPre n j (now list) (now rows) ⌝ }
+    requires { ⌜ SeeListPre n j (now list) (now rows) ⌝ }
     ensures { λ r. ⌜ SawList n j (now (list .entry)) (now (rows .entry)) (now (rows .exit)) ⌝ }
 {
     let mut i: usize = 0;
@@ -78,7 +78,7 @@ fn see_list(list: &[u32], j: u32, n: usize, rows: &mut [u32])
 
 // The first p words, one after the other.
 fn see_words(ends: &[u32], occurrences: &[u32], p: usize, n: usize, rows: &mut [u32])
-    requires { ⌜ WordsPre n p (now ends) (now occurrences) (now rows) ⌝ }
+    requires { ⌜ SeeWordsPre n p (now ends) (now occurrences) (now rows) ⌝ }
     ensures { λ r. ⌜ SawWords n p (now (ends .entry)) (now (occurrences .entry)) (now (rows .entry)) (now (rows .exit)) ⌝ }
 {
     let mut j: usize = 0;

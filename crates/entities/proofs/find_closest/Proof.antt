@@ -4,7 +4,7 @@ use mathlib.Core.Bool.{true}
 use borrow.Author.Tests.{not-true, not-false}
 use lib.ListN.{length}
 use lib.Seq.{length-take-le}
-use Rattle.entities.specs.Closest.{before}
+use Rattle.entities.specs.Closest.{parentsBefore}
 use Rattle.entities.proofs.Laws.{closest-many, closest-untagged, closest-short, closest-empty, closest-unordered, closest-nodes, closest-pre, closest-made, length-closestRows}
 use native.Mathlib.Omega.{arith}
 use Rattle.entities.proofs.find_closest.Statement.{statement}
@@ -17,7 +17,7 @@ abbrev sized : tie.Else5 → tie.Else3
 sized c = c .before .before .before
 
 -- Each parent stands before its child.
-ahead : (c : tie.Else5) → before (c .before .before .before .before .before .before .before .before .before .args .parents .now) ≡ true
+ahead : (c : tie.Else5) → parentsBefore (c .before .before .before .before .before .before .before .before .before .args .parents .now) ≡ true
 ahead c = sym (c .before .parents-before .ensures) ∙ not-false _ (c .if5 .left)
 
 returns : tie.Need-returns

@@ -2,13 +2,13 @@
 use Prim.Native.Nat.{_-_}
 use mathlib.Core.Logic.{⊎-elim}
 use lib.ListN.{length}
-use Rattle.listing.proofs.Writing.{Counted, counted-start, counted-yes, counted-no, counted-end}
+use Rattle.listing.proofs.Writing.{CountedTo, counted-start, counted-yes, counted-no, counted-end}
 use native.Mathlib.Omega.{arith}
 use Rattle.listing.proofs.count_flagged.Statement.{statement}
 use Rattle.listing.proofs.count_flagged.Tie as tie
 
 abbrev Inv-loop : tie.InvT-loop
-Inv-loop flags v₀ m₀ v m = Counted flags v m
+Inv-loop flags v₀ m₀ v m = CountedTo flags v m
 
 abbrev μ-loop : tie.MeasureT-loop
 μ-loop flags v₀ m₀ v m = length flags - v

@@ -13,7 +13,7 @@ use Rattle.seq.proofs.Laws.Numbers.{less-or}
 use Rattle.index.specs.declared.Reply.{Reply}
 use Rattle.text.specs.Text.{decimal}
 use Rattle.report.specs.Lines.{lineText, nodeLines, answerText, listedBy}
-use Rattle.report.specs.Contracts.{Shown}
+use Rattle.report.specs.Inner.{Shown}
 
 module _ (name : List ℕ) (r : Reply) where
   pub nodes-none : nodeLines name r [] ≡ []

@@ -22,7 +22,8 @@ use Rattle.sheet.specs.declared.Shape.{Shape}
 use Rattle.sheet.specs.declared.Read.{Read}
 use Rattle.sheet.specs.declared.Read.the-variants.{Broken, Taken}
 use Rattle.sheet.specs.Table.{Table, headerText, positives, negatives, wordsOf, headerOk, width, rowOk, lineOk, broken, rowOf, cellsOf, tableOf}
-use Rattle.sheet.specs.Contracts.{nodeOk, shapeOf, readLines, readOf, cellsRead, rowsRead}
+use Rattle.sheet.specs.Inner.{nodeLineOk}
+use Rattle.sheet.specs.Contracts.{shapeOf, readLines, readOf, cellsRead, rowsRead}
 use Rattle.sheet.proofs.Lining.{rows-none, rows-read}
 use Rattle.sheet.proofs.Tabling.{read-broken, read-taken}
 
@@ -98,12 +99,12 @@ module _ (s : List ℕ) (t : Shape) (e : readOf s ≡ Taken t) where
   unfolding broken lines firstFail lineOk
   header = ⊎-elim (λ q. q) (λ q. absurd (not-suc-le-zero (rw q at whole))) (bool-cases (headerOk l))
 
-  rows : length L ≤ firstFail (length L) (nodeOk w L)
+  rows : length L ≤ firstFail (length L) (nodeLineOk w L)
   unfolding broken lines firstFail lineOk
   rows = le-of-suc-le-suc (rw header at whole)
 
-  node : (v : ℕ) → v < length L → nodeOk w L v ≡ true
-  node v h = first-below (length L) (nodeOk w L) v (omega (arith, rows))
+  node : (v : ℕ) → v < length L → nodeLineOk w L v ≡ true
+  node v h = first-below (length L) (nodeLineOk w L) v (omega (arith, rows))
 
   few : length L ≤ 256
   few = ⊎-elim (λ q. absurd (false≢true (and-left (ltb 256 256) (rowOk w (getD L 256 [])) (node 256 q)))) (λ q. q) (less-or 256 (length L))

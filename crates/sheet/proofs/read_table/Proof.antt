@@ -7,7 +7,7 @@ use lib.ListN.{length, drop}
 use lib.Seq.{length-take-le}
 use Rattle.text.specs.Text.{firstLine, allLines}
 use Rattle.sheet.specs.Table.{headerOk}
-use Rattle.sheet.specs.Contracts.{RowsRead}
+use Rattle.sheet.specs.Inner.{RowsRead}
 use Rattle.sheet.proofs.Tabling.{Head, head-of, table-long, table-header, header-judged, header-few, first-to, table-taken, table-broken}
 use native.Mathlib.Omega.{arith}
 use Rattle.sheet.proofs.read_table.Statement.{statement}

@@ -2,7 +2,7 @@
 use mathlib.Core.Path.{refl}
 use mathlib.Core.Logic.{inl, inr}
 use lib.ListN.{length-set}
-use Rattle.twins.specs.Flags.{skipped}
+use Rattle.twins.specs.Inner.Flags.{skipped}
 use Rattle.twins.proofs.Taking.{take-none, take-cell, take-before, take-alone, take-paired}
 use native.Mathlib.Omega.{arith}
 use Rattle.twins.proofs.take_up.Statement.{statement}

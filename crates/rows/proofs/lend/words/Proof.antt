@@ -1,6 +1,6 @@
 -- `rows::lend::words` meets its contract: glue over Lending.
 use Prim.Native.Nat.{_-_}
-use Rattle.rows.specs.Contracts.{tableIn}
+use Rattle.rows.specs.Inner.{tableIn}
 use Rattle.rows.proofs.Lending.{Wording, word-start, word-list, word-count, word-small, word-step, word-end}
 use native.Mathlib.Omega.{arith}
 use Rattle.rows.proofs.lend.words.Statement.{statement}

@@ -5,7 +5,7 @@ use native.Mathlib.Omega.{arith}
 use lib.Seq.{length-take-le}
 use Rattle.text.proofs.Laws.Buffers.{adds-same}
 use Rattle.report.specs.Lines.{validText}
-use Rattle.rows.specs.Contracts.{tableIn}
+use Rattle.rows.specs.Inner.{tableIn}
 use Rattle.rows.proofs.Answering.{answers-words, answers-product, answers-total, answers-lent}
 use Rattle.rows.proofs.search.put_all.Statement.{statement}
 use Rattle.rows.proofs.search.put_all.Tie as tie

@@ -4,7 +4,7 @@ use native.Mathlib.Nat.{add-zero}
 use lib.Seq.{length-take-le}
 use Rattle.text.proofs.Laws.Buffers.{adds-same}
 use Rattle.report.specs.Lines.{pairText}
-use Rattle.rows.specs.Contracts.{tableIn}
+use Rattle.rows.specs.Inner.{tableIn}
 use Rattle.rows.proofs.Answering.{answers-words, answers-product, answers-total, answers-lent}
 use native.Mathlib.Omega.{arith}
 use Rattle.rows.proofs.search.put_positive.Statement.{statement}

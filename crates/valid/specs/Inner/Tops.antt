@@ -28,7 +28,7 @@ unfoldable pub negates : List ℕ → List ℕ → List ℕ → ℕ → Bool
 negates t c l v = someOf (λ x. text t x && eqb v (getD c x 0)) l
 
 -- What is lent to mark: a row c of nodes, none of them text where c is at a text node.
-pub record MarkPre (l t c : List ℕ) : Type 0 where
+pub record NegatePre (l t c : List ℕ) : Type 0 where
   pub few : length t ≤ 65536
   pub long : length c ≡ length t
   pub list : EachBelow (length t) l
@@ -83,7 +83,7 @@ pub data Saw (n x j : ℕ) (w w′ : List ℕ) : Type 0 where
   passed : (n ≤ getD w x 0) ⊎ (getD w (n + getD w x 0) 0 ≡ j → ⊥) → w′ ≡ w → Saw n x j w w′
   saw : getD w x 0 < n → getD w (n + getD w x 0) 0 ≡ j → w′ ≡ set w (n + getD w x 0) (j + 1) → Saw n x j w w′
 
-pub record ListPre (n j : ℕ) (l w : List ℕ) : Type 0 where
+pub record SeeListPre (n j : ℕ) (l w : List ℕ) : Type 0 where
   pub few : n ≤ 65536
   pub word : j ≤ 8
   pub list : EachBelow n l
@@ -105,7 +105,7 @@ reached f (suc j) = cond (eqb (reached f j) j && f j) (suc j) (reached f j)
 abbrev pub points : List ℕ → List ℕ → List ℕ → ℕ → ℕ → Bool
 points w ends occ s j = pointsIn w (wordList ends occ j) s
 
-pub record WordsPre (n k : ℕ) (ends occ w : List ℕ) : Type 0 where
+pub record SeeWordsPre (n k : ℕ) (ends occ w : List ℕ) : Type 0 where
   pub few : n ≤ 65536
   pub fewWords : k ≤ 8
   pub ended : k ≤ length ends

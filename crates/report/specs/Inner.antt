@@ -1,4 +1,4 @@
--- What the functions of this crate promise each other. Assumes nothing.
+-- What the functions of this crate promise each other; no public contract cites it. Assumes nothing.
 use Prim.Native.Nat.{ℕ, _≤_}
 use mathlib.Core.Path.{_≡_}
 use mathlib.Core.List.{List}

@@ -1,4 +1,4 @@
--- What the functions of this crate promise each other. Assumes nothing.
+-- What the functions of this crate promise each other; no public contract cites it. Assumes nothing.
 use Prim.Native.Nat.{ℕ, _+_, _*_, _≤_, _<_}
 use mathlib.Core.Path.{_≡_}
 use mathlib.Core.List.{List, _++_}
@@ -22,7 +22,7 @@ pub record ColumnPre (w i n : ℕ) (cs : List ℕ) : Type 0 where
   pub few : n ≤ 256
 
 -- For the first k words, where `room` occurrences can be written.
-pub record WordsPre (T : Table) (k room : ℕ) : Type 0 where
+pub record LendWordsPre (T : Table) (k room : ℕ) : Type 0 where
   pub words : k ≤ T .positive + T .negative
   pub fewWords : T .positive + T .negative ≤ 8
   pub fewNodes : T .nodes ≤ 256

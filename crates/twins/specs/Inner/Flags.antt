@@ -13,15 +13,15 @@ use lib.ListN.{length, getD, set}
 use Rattle.tree.specs.Tree.{parent}
 use Rattle.answers.specs.Classes.{sibling}
 use Rattle.twins.specs.Twins.{twinFlag}
-use Rattle.twins.specs.Order.{tag, Order, Rows}
+use Rattle.twins.specs.Inner.Order.{tag, Order, TwoRows}
 
 unfoldable pub kin : List ℕ → List ℕ → ℕ → ℕ → Bool
 kin p t v u = sibling p v u && eqb (getD t u 0) (getD t v 0)
 
 -- ---- taking up a node
 -- The last child of v's parent taken up so far, 0 for none.
-abbrev pub before : List ℕ → ℕ → ℕ → List ℕ → ℕ
-before p last v w = getD w (last + parent p v) 0
+abbrev pub takenBefore : List ℕ → ℕ → ℕ → List ℕ → ℕ
+takenBefore p last v w = getD w (last + parent p v) 0
 
 -- v is now the last one.
 abbrev pub noted : List ℕ → ℕ → ℕ → List ℕ → List ℕ
@@ -31,18 +31,18 @@ pub data TakenUp (p t : List ℕ) (last v : ℕ) (w w′ : List ℕ) : Type 0 wh
   -- the root, or a node whose parent is none: nothing is written
   skipped : (v ≡ 0) ⊎ (length p ≤ parent p v) → w′ ≡ w → TakenUp p t last v w w′
   -- no child of its parent came before it, or one with another tag
-  alone : 0 < v → parent p v < length p → (before p last v w ≡ 0) ⊎ (tag t (before p last v w) ≡ tag t v → ⊥) → w′ ≡ noted p last v w → TakenUp p t last v w w′
+  alone : 0 < v → parent p v < length p → (takenBefore p last v w ≡ 0) ⊎ (tag t (takenBefore p last v w) ≡ tag t v → ⊥) → w′ ≡ noted p last v w → TakenUp p t last v w w′
   -- the one before it has its tag: both are flagged
-  paired : 0 < v → parent p v < length p → (before p last v w ≡ 0 → ⊥) → tag t (before p last v w) ≡ tag t v →
-      w′ ≡ set (set (noted p last v w) (before p last v w) 1) v 1 → TakenUp p t last v w w′
+  paired : 0 < v → parent p v < length p → (takenBefore p last v w ≡ 0 → ⊥) → tag t (takenBefore p last v w) ≡ tag t v →
+      w′ ≡ set (set (noted p last v w) (takenBefore p last v w) 1) v 1 → TakenUp p t last v w w′
 
-pub record TakePre (p t : List ℕ) (last v : ℕ) (w : List ℕ) : Type 0 where
+pub record TakeUpPre (p t : List ℕ) (last v : ℕ) (w : List ℕ) : Type 0 where
   pub few : length p ≤ 65536
   pub node : v < length p
   pub tagged : length t ≡ length p
   pub flags : length p ≤ length w
   pub lasts : last + length p ≤ length w
-  pub known : parent p v < length p → before p last v w < length p
+  pub known : parent p v < length p → takenBefore p last v w < length p
 
 -- ---- all nodes
 pub record FlagPre (p t : List ℕ) (at last : ℕ) (w : List ℕ) : Type 0 where
@@ -50,7 +50,7 @@ pub record FlagPre (p t : List ℕ) (at last : ℕ) (w : List ℕ) : Type 0 wher
   pub tagged : length t ≡ length p
   pub after : length p ≤ at
   pub behind : length p ≤ last
-  pub rows : Rows (length p) at last w
+  pub rows : TwoRows (length p) at last w
   pub order : Order (length p) (tag t) at w
   pub unflagged : (v : ℕ) → v < length p → getD w v 0 ≡ 0
   pub untaken : (v : ℕ) → v < length p → getD w (last + v) 0 ≡ 0
