@@ -1,0 +1,5 @@
+mod Replying
+mod Leaving
+mod Searching
+pub mod Calls
+pub mod Papers
