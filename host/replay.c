@@ -1,7 +1,8 @@
 /* Replays the cases of a case file (second/README.md says its layout) through include/sonquilate.h, from standard input. For
  * each case one line: its number, the search, the reply, and the final work, out and own, each as its length and a hash.
  * Every slice stands between fences of its own, and what is lent to be read is hashed before and after: a write to
- * anything but work, out and own, or past their ends, stops the run with status 3. */
+ * anything but work, out and own, or past their ends, stops the run with status 3. In every other case an empty slice is lent
+ * as a null pointer. */
 #include "sonquilate.h"
 
 #include <stdio.h>
@@ -88,9 +89,15 @@ static void print(unsigned long index, uint32_t search, sq_reply r, const slice 
 
 static void try(unsigned long index, uint32_t search, uint32_t p, uint32_t q, const slice *s) {
     uint64_t before[WORK];
+    slice lent[SLICES];
     for (int i = 0; i < WORK; i++)
         before[i] = hash(s[i]);
-    sq_reply r = call(search, p, q, s);
+    for (int i = 0; i < SLICES; i++) {
+        lent[i] = s[i];
+        if (s[i].length == 0 && index % 2 == 1)
+            lent[i].at = NULL;
+    }
+    sq_reply r = call(search, p, q, lent);
     for (int i = 0; i < WORK; i++)
         if (hash(s[i]) != before[i])
             stop(3, "a write to what is lent to be read", index);

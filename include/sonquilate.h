@@ -1,7 +1,8 @@
 /* sonquilate.h: XML keyword search over a lent index, version 0.1.
  *
  * What is not declared here is no interface. No function allocates, keeps a pointer, or has a state of its own: the caller
- * owns every buffer, and two calls on different buffers may run at once.
+ * owns every buffer. Calls that share nothing but the index, which is only read, may run at once: each needs a work, an out
+ * and an own of its own.
  *
  * [P: d] marks what is proved of the library for every input, on the machine of the language that it is written in, by
  * equations with the definitions d. [T] marks what is only tested. docs/TRUST.md says what a proof covers and in which file
@@ -38,7 +39,8 @@
  * written, and later entries stay. [P: workAfter, elcaOut, elcaOwn, slcaOut, validOut]
  *
  * ASKED OF C, which no proof can see: each pointer is aligned for uint32_t and valid for its length, for writing too in
- * work, out and own; these three overlap nothing else that is lent; a slice of length 0 has a pointer that is not null.
+ * work, out and own; these three overlap nothing else that is lent. A slice of length 0 is neither read nor written, and may
+ * be lent as a null pointer [T].
  * That these declarations fit the code, and that nothing is written past a slice: [T].
  */
 #ifndef SONQUILATE_H

@@ -3,7 +3,7 @@
 --   check-of, slca-of, elca-of, valid-of                       what does as demanded meets the contract: so the demands, too, admit one outcome
 --   shortest-any                                               the SLCAs listed are in every set of full nodes that loses nothing
 -- Letters: I index; w, o, s work, out and own as lent, w′, o′, s′ as they are at the end; r reply; S a set of nodes; v node, j word, i answer, e entry.
-use Prim.Native.Nat.{ℕ, zero-le, _+_, _*_, _/_, _%_, _≤_, _<_}
+use Prim.Native.Nat.{ℕ, _+_, _*_, _/_, _%_, _≤_, _<_}
 use mathlib.Core.Path.{_≡_, refl, sym, ap, _∙_}
 use mathlib.Core.Logic.{inl}
 use mathlib.Core.List.{List}
@@ -44,13 +44,13 @@ module _ (I : Index) (w : List ℕ) (r : Reply) (w′ : List ℕ) where
   pub check-demands : Checked I w r w′ → CheckDemands I w r w′
   unfolding checkReply
   check-demands c =
-      let D : _ = replied 8 I (length w) (0 ≤ 0) true 0 (λ q. zero-le) (λ q. refl) in
+      let D : _ = replied 8 I (length w) ⊤ true 0 (λ q. tt) (λ q. refl) in
       rw (c .reply, c .work) (record { reply = D; work = work-left 8 I w _ (D .size) })
 
   pub check-of : CheckDemands I w r w′ → Checked I w r w′
   unfolding checkReply
   check-of d = record {
-    reply = replied-unique 8 I (length w) (0 ≤ 0) true 0 (λ q. zero-le) (λ q. refl) r (d .reply);
+    reply = replied-unique 8 I (length w) ⊤ true 0 (λ q. tt) (λ q. refl) r (d .reply);
     work = work-unique 8 I w r (d .reply .size) w′ (d .work);
   }
 
