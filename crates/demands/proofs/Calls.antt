@@ -44,13 +44,13 @@ module _ (I : Index) (w : List ℕ) (r : Reply) (w′ : List ℕ) where
   pub check-demands : Checked I w r w′ → CheckDemands I w r w′
   unfolding checkReply
   check-demands c =
-      let D : _ = replied 8 I (length w) ⊤ true 0 (λ q. tt) (λ q. refl) in
+      let D : _ = replied 8 I (length w) (Unit {0}) true 0 (λ q. tt) (λ q. refl) in
       rw (c .reply, c .work) (record { reply = D; work = work-left 8 I w _ (D .size) })
 
   pub check-of : CheckDemands I w r w′ → Checked I w r w′
   unfolding checkReply
   check-of d = record {
-    reply = replied-unique 8 I (length w) ⊤ true 0 (λ q. tt) (λ q. refl) r (d .reply);
+    reply = replied-unique 8 I (length w) (Unit {0}) true 0 (λ q. tt) (λ q. refl) r (d .reply);
     work = work-unique 8 I w r (d .reply .size) w′ (d .work);
   }
 

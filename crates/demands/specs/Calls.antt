@@ -56,7 +56,7 @@ pub record BufferLeft (r : Reply) (m : ℕ) (o o′ : List ℕ) : Type 0 where
 -- ---- the index check
 -- It has no answers, and so it always has room for them.
 pub record CheckDemands (I : Index) (w : List ℕ) (r : Reply) (w′ : List ℕ) : Type 0 where
-  pub reply : Replied 8 I (length w) ⊤ 0 r
+  pub reply : Replied 8 I (length w) (Unit {0}) 0 r
   pub work : WorkLeft I r w w′
 
 -- ---- the searches
