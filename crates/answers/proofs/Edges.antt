@@ -2,7 +2,7 @@
 --   edges     == the lines, which Cases adds to 01's own in one table
 -- Each is worked out from document 01 by hand. A line that a search accepts stands beside the refusal that it nearly is. Assumes nothing.
 use Prim.Native.Nat.{ℕ, zero, suc}
-use mathlib.Core.List.{List, [], _∷_, _++_}
+use mathlib.Core.List.{List, [], _∷_}
 use lib.ListN.{replicate}
 use Rattle.index.specs.Index.{Index}
 use Rattle.index.specs.Contracts.{lent}

@@ -4,7 +4,7 @@
 --   entity-plain                               a node is an entity exactly where that rule is the third
 --   closest-plain, closest-is                  the closest entity of a text node is the nearest entity above it, or the root; and no other node is
 -- Letters: p parents, t tags; v node, w another, c child, x text node.
-use Prim.Native.Nat.{ℕ, zero, suc, _<_, _≤_}
+use Prim.Native.Nat.{ℕ, _<_, _≤_}
 use mathlib.Core.Path.{_≡_, refl, sym, ap, subst, _∙_}
 use mathlib.Core.Logic.{_↔_, ⊎-elim}
 use mathlib.Core.List.{List, [], _∷_}
@@ -20,12 +20,12 @@ use Rattle.seq.proofs.Laws.Below.{Found, Both, some-at, some-of, both-at, both-
 use Rattle.seq.proofs.Laws.Sums.{sum-ext, sum-pick}
 use Rattle.seq.proofs.Laws.Members.{length-listed, listed-member}
 use Rattle.tree.specs.Tree.{parent, line, under, child}
-use Rattle.tree.specs.Plain.{Down, Under}
+use Rattle.tree.specs.Plain.{Down}
 use Rattle.tree.specs.Rules.{text}
 use Rattle.tree.proofs.Laws.Under.{under-plain, under-of-plain, under-le}
 use Rattle.tree.proofs.Laws.Ways.{Nearest, line-some, nearest-at, nearest-unique}
 use Rattle.answers.specs.Classes.{Class, isText, isAttribute, isEntity, isDummy, children, oneText, sibling, twin, classOf, isEntityClass, entity, closest}
-use Rattle.answers.specs.Plain.{Text, Child, OneText, Twin, Attribute, Entity, Dummy, Fits, Ancestor, Closest, nearest, root}
+use Rattle.answers.specs.Plain.{Text, Child, OneText, Twin, Entity, Fits, Ancestor, Closest, nearest, root}
 use Rattle.answers.proofs.Laws.Not.{text-no-entity, closest-nearest, closest-root}
 
 -- ---- text, child
