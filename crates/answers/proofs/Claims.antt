@@ -6,6 +6,7 @@
 --   negatorsOf, classesOf, closestOf, ownsOf, creditOf    == parts of an answer
 --   gives, are, refuse          == what is written beside them
 --   holds, holds-is             == the test of a line, and that a line that passes it says what is found
+--   check-tabled                   what a line computes is what the contract of the index check promises
 -- What is lent in a buffer is 99 throughout: no answer here has it. The cases are in Cases and Edges. Assumes nothing.
 use Prim.Native.Nat.{ℕ, suc, _+_}
 use mathlib.Core.Path.{_≡_, refl, ap₂}
@@ -19,7 +20,7 @@ use Rattle.seq.proofs.Laws.Lists.{sameList-is}
 use Rattle.index.specs.declared.Reply.{Reply}
 use Rattle.index.specs.Index.{Index, nodes, wanted}
 use Rattle.index.specs.Replies.{checkReply, workAfter}
-use Rattle.index.specs.Contracts.{lent}
+use Rattle.index.specs.Contracts.{lent, Checked}
 use Rattle.answers.specs.Answers.{full, ownCount, credited}
 use Rattle.answers.specs.Classes.{Class, isText, isAttribute, isEntity, isDummy, classOf, closest}
 use Rattle.answers.specs.Searches.{isNegator, elcaReply, elcaOut, elcaOwn, slcaReply, slcaOut, validReply, validOut}
@@ -163,3 +164,8 @@ holds-is c e = same-is (c .found) (c .said) e
     same-is [] (y ∷ b) e = absurd (false≢true e)
     same-is (x ∷ a) [] e = absurd (false≢true e)
     same-is (x ∷ a) (y ∷ b) e = ap₂ _∷_ (sameList-is x y (and-left (sameList x y) (sameLists a b) e)) (same-is a b (and-right (sameList x y) (sameLists a b) e))
+
+-- What the index check promises is what a line computes. The searches have the same for their contracts.
+pub check-tabled : (I : Index) (w : ℕ) (r : Reply) (w′ : List ℕ) → Checked I (nines w) r w′ → (three r ∷ w′ ∷ []) ≡ checkOf I w
+unfolding checkOf
+check-tabled I w r w′ c = cc

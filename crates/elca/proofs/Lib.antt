@@ -5,3 +5,4 @@ mod Flagging
 mod Writing
 mod Answering
 mod Searching
+pub mod Tabled

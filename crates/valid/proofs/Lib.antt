@@ -7,3 +7,4 @@ mod Stretch
 mod Validity
 mod Rejecting
 pub mod Entry
+pub mod Tabled

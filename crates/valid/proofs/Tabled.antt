@@ -1,0 +1,14 @@
+-- The contract of the search with NOT beside the table of cases (`answers`, Cases): what a line of the table computes is what the contract promises, so each line is a case of
+-- the contract. Letters: I index; w, o lengths of work, out; r reply. Assumes nothing.
+use Prim.Native.Nat.{ℕ}
+use mathlib.Core.Path.{_≡_}
+use mathlib.Core.List.{List, [], _∷_}
+use Rattle.index.specs.declared.Reply.{Reply}
+use Rattle.index.specs.Index.{Index}
+use Rattle.answers.proofs.Claims.{nines, three, validOf}
+use Rattle.valid.specs.Contracts.{ValidSearched}
+
+pub valid-tabled : (I : Index) (w o : ℕ) (r : Reply) (w′ o′ : List ℕ) →
+    ValidSearched I (nines w) (nines o) r w′ o′ → (three r ∷ w′ ∷ o′ ∷ []) ≡ validOf I w o
+unfolding validOf
+valid-tabled I w o r w′ o′ c = cc
