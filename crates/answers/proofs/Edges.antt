@@ -12,6 +12,7 @@ use Rattle.answers.proofs.Claims.{Case, case, Word, word, ask, nines, z
 abbrev pair : List ℕ → List ℕ → List ℕ → List ℕ → List ℕ → Index
 pair p t ends occ cs = lent p t 2 0 ends occ cs
 
+-- Its parents, tags, ends, occurrences and counts, as they must be.
 abbrev P : List ℕ
 P = 0 ∷ 0 ∷ 1 ∷ 1 ∷ []
 
@@ -63,8 +64,8 @@ bunch =
     []
 
 -- ---- classes
--- 0 has the children 1, 4, 6, 9, 10, 11, 12 and 13. 1 and 4 have one tag: 1 has two texts, 4 has one. 6 has the root's tag, and below it 7 and, below that, 8 have one
--- tag, which 9 has too. 10 and 11 are texts. 12 and 13 have one tag, and nothing below them.
+-- 0 has the children 1, 4, 6, 9, 10, 11, 12 and 13. 1 and 4 have one tag: 1 has two texts, 4 has one. 6 has the root's tag. Below it is 7, and below that 8, with one tag,
+-- which 9 has too. 10 and 11 are texts. 12 and 13 have one tag, and nothing below them. No count is asked here.
 abbrev kinds : Index
 kinds =
     lent (0 ∷ 0 ∷ 1 ∷ 1 ∷ 0 ∷ 4 ∷ 0 ∷ 6 ∷ 7 ∷ 0 ∷ 0 ∷ 0 ∷ 0 ∷ 0 ∷ []) (3 ∷ 2 ∷ 0 ∷ 0 ∷ 2 ∷ 0 ∷ 3 ∷ 4 ∷ 4 ∷ 4 ∷ 0 ∷ 0 ∷ 9 ∷ 9 ∷ []) 1 0 (1 ∷ []) (0 ∷ []) []
@@ -94,6 +95,10 @@ at8 = word (8 ∷ []) (1 ∷ 0 ∷ 0 ∷ 0 ∷ 0 ∷ 0 ∷ 0 ∷ 1 ∷ 1 ∷ 0 �
 abbrev at9 : Word
 at9 = word (9 ∷ []) (1 ∷ 0 ∷ 0 ∷ 0 ∷ 0 ∷ 0 ∷ 0 ∷ 1 ∷ 0 ∷ 1 ∷ [])
 
+abbrev nowhere : Word
+nowhere = word [] (replicate 10 0)
+
+-- ---- the lines
 abbrev edge : List (List ℕ) → List (List ℕ) → Case
 edge f s = case 0 f s
 
@@ -121,6 +126,7 @@ edges =
     ∷ edge (slcaOf (single 8 0) 10 1) (gives 0 0 1 ∷ zeros 10 0 ∷ (0 ∷ []) ∷ [])
     ∷ edge (everyCall (single 9 0) 11 3) (refuse 1 0 0 (nines 11) 3)
     ∷ edge (validOf (single 1 7) 10 1) (gives 0 0 1 ∷ zeros 10 0 ∷ (0 ∷ []) ∷ [])
+    ∷ edge (checkOf (single 1 7) 10) (gives 0 0 0 ∷ zeros 10 0 ∷ [])
     ∷ edge (everyCall (single 1 8) 11 3) (refuse 1 0 0 (nines 11) 3)
     ∷ edge (validOf (single 7 1) 10 1) (gives 0 0 1 ∷ zeros 10 0 ∷ (0 ∷ []) ∷ [])
     ∷ edge (everyCall (single 8 1) 11 3) (refuse 1 0 0 (nines 11) 3)
@@ -150,8 +156,9 @@ edges =
     ∷ edge (everyCall (pair P T E (4 ∷ 3 ∷ []) C) 17 3) (refuse 3 0 0 (zeros 16 1) 3)
     ∷ edge (everyCall (pair P T (2 ∷ 3 ∷ []) (2 ∷ 2 ∷ 3 ∷ []) C) 17 3) (refuse 3 0 0 (zeros 16 1) 3)
     ∷ edge (everyCall (pair P T (1 ∷ 3 ∷ []) (2 ∷ 3 ∷ 1 ∷ []) C) 17 3) (refuse 3 1 0 (zeros 16 1) 3)
-    -- an end below the one before, above the occurrences, a last end short of them
+    -- an end below the one before, also where the last end is right; one above the occurrences; a last end short of them, and past them
     ∷ edge (everyCall (pair P T (2 ∷ 1 ∷ []) O C) 17 3) (refuse 3 1 0 (zeros 16 1) 3)
+    ∷ edge (everyCall (lent P T 3 0 (2 ∷ 1 ∷ 3 ∷ []) (0 ∷ 1 ∷ 3 ∷ []) (replicate 12 0)) 20 3) (refuse 3 1 0 (zeros 20 0) 3)
     ∷ edge (everyCall (pair P T (3 ∷ 2 ∷ []) O C) 17 3) (refuse 3 0 0 (zeros 16 1) 3)
     ∷ edge (everyCall (pair P T (1 ∷ 1 ∷ []) O C) 17 3) (refuse 3 1 0 (zeros 16 1) 3)
     ∷ edge (everyCall (pair P T (1 ∷ 3 ∷ []) O C) 17 3) (refuse 3 1 0 (zeros 16 1) 3)
@@ -183,12 +190,13 @@ edges =
     -- ---- classes: 1 text, 2 attribute, 3 entity, 4 dummy; the closest entities of the texts 2, 3, 5, 10 and 11
     ∷ edge (classesOf kinds) (are (4 ∷ 3 ∷ 1 ∷ 1 ∷ 2 ∷ 1 ∷ 4 ∷ 4 ∷ 4 ∷ 4 ∷ 1 ∷ 1 ∷ 3 ∷ 3 ∷ []))
     ∷ edge (closestOf kinds (2 ∷ 3 ∷ 5 ∷ 10 ∷ 11 ∷ [])) (are (1 ∷ 1 ∷ 0 ∷ 0 ∷ 0 ∷ []))
-    -- ---- negative words, each of which matters: one, two in both orders, three, and one between that does not
+    -- ---- negative words, each of which matters: one, two, three, and two with one between them that occurs nowhere
     ∷ edge (validOf (trains (firsts ∷ []) (at3 ∷ [])) 40 3) (gives 0 0 2 ∷ zeros 40 0 ∷ (5 ∷ 8 ∷ 99 ∷ []) ∷ [])
     ∷ edge (validOf (trains (firsts ∷ []) (at3 ∷ at6 ∷ [])) 50 3) (gives 0 0 1 ∷ zeros 50 0 ∷ (8 ∷ 99 ∷ 99 ∷ []) ∷ [])
     ∷ edge (validOf (trains (firsts ∷ []) (at9 ∷ at3 ∷ [])) 50 3) (gives 0 0 1 ∷ zeros 50 0 ∷ (5 ∷ 99 ∷ 99 ∷ []) ∷ [])
     ∷ edge (negatorsOf (trains (firsts ∷ []) (at9 ∷ at3 ∷ at6 ∷ []))) (are (1 ∷ 4 ∷ 7 ∷ []))
     ∷ edge (validOf (trains (firsts ∷ []) (at9 ∷ at3 ∷ at6 ∷ [])) 60 3) (gives 0 0 0 ∷ zeros 60 0 ∷ nines 3 ∷ [])
+    ∷ edge (validOf (trains (firsts ∷ []) (at6 ∷ nowhere ∷ at9 ∷ [])) 60 3) (gives 0 0 1 ∷ zeros 60 0 ∷ (2 ∷ 99 ∷ 99 ∷ []) ∷ [])
     -- one valid occurrence of each word is enough, and each word needs one: 0 is the SLCA
     ∷ edge (validOf (trains (two ∷ at8 ∷ []) (at3 ∷ [])) 50 3) (gives 0 0 1 ∷ zeros 50 0 ∷ (0 ∷ 99 ∷ 99 ∷ []) ∷ [])
     ∷ edge (validOf (trains (two ∷ at8 ∷ []) (at3 ∷ at6 ∷ [])) 60 3) (gives 0 0 0 ∷ zeros 60 0 ∷ nines 3 ∷ [])
