@@ -12,8 +12,8 @@ use lib.Dec.{eqb}
 use borrow.Author.Tests.{eqb-true, eqb-false}
 use lib.ListN.{length, getD}
 use Rattle.seq.proofs.Laws.Bools.{bool-cases, bool-not-both}
-use Rattle.seq.proofs.Laws.Memory.{zeroed-at}
-use Rattle.seq.proofs.Laws.Plain.{over-at, stays-over, stays-zeroed, stays-unique}
+use Rattle.seq.proofs.Laws.Memory.{zeroed-at, over-front}
+use Rattle.seq.proofs.Laws.Plain.{stays-over, stays-zeroed, stays-unique}
 use Rattle.index.specs.declared.Reply.{Reply}
 use Rattle.index.specs.Index.{Index}
 use Rattle.index.specs.Replies.{accepted, SIZE, room, sizeOk, workAfter, keptOr}
@@ -54,7 +54,7 @@ module _ (r : Reply) (m : ℕ) (new o : List ℕ) (total : r .refusal ≡ accept
 
   -- The first m entries are what is written.
   pub buffer-at : r .refusal ≡ accepted → (i : ℕ) → i < m → getD (keptOr r new o) i 0 ≡ getD new i 0
-  buffer-at q i l = ap (λ (z : List ℕ). getD z i 0) (kept-accepted r new o q) ∙ over-at new o i (omega (arith, total q))
+  buffer-at q i l = ap (λ (z : List ℕ). getD z i 0) (kept-accepted r new o q) ∙ over-front new o i (omega (arith, total q))
 
   pub buffer-unique : (o′ : List ℕ) → BufferLeft r m o o′ → (r .refusal ≡ accepted → (i : ℕ) → i < m → getD o′ i 0 ≡ getD new i 0) → o′ ≡ keptOr r new o
   buffer-unique o′ a front =

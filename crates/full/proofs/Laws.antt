@@ -1,4 +1,4 @@
--- Laws of the full flags. Assumes nothing.
+-- Laws of the full flags, and that no second outcome fits. Assumes nothing.
 use Prim.Native.Nat.{ℕ, _+_, _*_, _/_, _<_}
 use mathlib.Core.Path.{_≡_, refl, sym, ap, _∙_}
 use mathlib.Core.List.{List, [], _∷_}
@@ -9,6 +9,7 @@ use lib.Dec.{ltb}
 use lib.ListN.{length, getD}
 use Rattle.seq.specs.Below.{everyBelow, tabulate}
 use Rattle.seq.proofs.Laws.Gather.{length-tabulate, getD-tabulate}
+use Rattle.seq.proofs.Laws.Outcomes.{outcome-unique}
 use Rattle.full.specs.Full.{fullBy, fullFlags}
 use Rattle.full.specs.Inner.{FullPre}
 
@@ -39,3 +40,7 @@ fullFlags-none cs (x ∷ fl) e = absurd (suc-ne-zero (length fl) e)
 pub fullFlags-is : (cs fl : List ℕ) (n : ℕ) → n ≡ length fl → fl ≡ tabulate n (λ v. cond (fullBy cs n (length cs / n) v) 1 0) → fl ≡ fullFlags cs n
 unfolding fullFlags
 fullFlags-is cs fl n e q = q
+
+-- No second outcome fits the contract of `flag_full`: the flags were fl, and are o or o′ at exit.
+pub flag-full-unique : (cs fl o o′ : List ℕ) → o ≡ fullFlags cs (length fl) → o′ ≡ fullFlags cs (length fl) → o ≡ o′
+flag-full-unique cs fl o o′ = outcome-unique

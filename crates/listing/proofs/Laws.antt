@@ -13,6 +13,7 @@ use Rattle.seq.specs.Memory.{over}
 use Rattle.seq.proofs.Laws.Bools.{bool-cases}
 use Rattle.seq.proofs.Laws.Gather.{listed-le, gather-ext}
 use Rattle.seq.proofs.Laws.Memory.{length-over}
+use Rattle.seq.proofs.Laws.Outcomes.{outcome-unique}
 use Rattle.index.specs.declared.Reply.{Reply}
 use Rattle.index.specs.Index.{Index, nodes}
 use Rattle.index.specs.Replies.{accepted, SIZE, ROOM, refused, totalled, keptOr}
@@ -83,5 +84,8 @@ module _ (I : Index) (f : ℕ → Bool) (fl : List ℕ) (long : length fl ≡ no
       (ap₂ (λ (t : List ℕ) (m : ℕ). totalled (cond (leb (length t) (length o)) accepted ROOM) m) rows-by count-by)
 
 -- ---- no second outcome fits
+pub count-flagged-unique : (fl : List ℕ) (r r′ : ℕ) → r ≡ length (listed (length fl) (flagged fl)) → r′ ≡ length (listed (length fl) (flagged fl)) → r ≡ r′
+count-flagged-unique fl r r′ = outcome-unique
+
 pub listed-unique : (fl out : List ℕ) (r r′ : Reply) (o o′ : List ℕ) → Listed fl out r o → Listed fl out r′ o′ → (r ≡ r′) × (o ≡ o′)
 listed-unique fl out r r′ o o′ a b = (a .reply ∙ sym (b .reply), a .out ∙ sym (b .out))

@@ -6,9 +6,8 @@
 --   first-are-map      the same for a statement that means the same
 --   stays-over, stays-zeroed   what is written over the front of a buffer leaves the rest
 --   stays-unique       a buffer is fixed by its front and by what stays
---   over-at, over-past, zeroed-past   the entries of such buffers
 -- Letters: n numbers, l list, m entries; i j k places; f test; o buffer as it was lent, o′ o″ as it is.
-use Prim.Native.Nat.{ℕ, zero, suc, _+_, _-_, _≤_, _<_}
+use Prim.Native.Nat.{ℕ, zero, suc, _-_, _≤_, _<_}
 use mathlib.Core.Path.{_≡_, sym, ap, _∙_}
 use mathlib.Core.Logic.{⊎-elim}
 use mathlib.Core.List.{List}
@@ -17,8 +16,8 @@ use native.Mathlib.Nat.{le-antisymm, not-le-of-lt, not-suc-le-zero, le-of-suc-le
 use native.Mathlib.Omega.{arith}
 use lib.Dec.{eqb}
 use borrow.Author.Tests.{eq-eqb, eqb-true}
-use lib.ListN.{length, getD, take, drop, replicate, length-replicate, List·getD-append}
-use lib.Seq.{length-take-le, getD-drop, getD-take, drop-at, ext-getD}
+use lib.ListN.{length, getD, take}
+use lib.Seq.{length-take-le, getD-take, ext-getD}
 use Rattle.seq.specs.Below.{firstFail, sumBelow, listed}
 use Rattle.seq.specs.Lists.{someOf}
 use Rattle.seq.specs.Memory.{zeroed, over}
@@ -28,7 +27,7 @@ use Rattle.seq.proofs.Laws.Numbers.{less-or}
 use Rattle.seq.proofs.Laws.Below.{first-below, first-at}
 use Rattle.seq.proofs.Laws.Lists.{Entry, someOf-at, someOf-of}
 use Rattle.seq.proofs.Laws.Members.{Rising, member-self, member-below, rising-unique, listed-below, listed-rising, listed-member, length-listed}
-use Rattle.seq.proofs.Laws.Memory.{length-over, length-zeroed, drop-over}
+use Rattle.seq.proofs.Laws.Memory.{length-over, length-zeroed, over-front, over-rest, zeroed-rest}
 
 -- ---- the lowest bad number
 pub lowest-first : (n : ℕ) (f : ℕ → Bool) (Keeps : ℕ → Type 0) → ((i : ℕ) → i < n → f i ≡ true → Keeps i) → ((i : ℕ) → i < n → Keeps i → f i ≡ true) →
@@ -44,28 +43,11 @@ lowest-unique n Keeps i j a b =
     le-antisymm (⊎-elim (λ q. absurd (b .breaks (a .before j q))) (λ q. q) (less-or j i)) (⊎-elim (λ q. absurd (a .breaks (b .before i q))) (λ q. q) (less-or i j))
 
 -- ---- what is written over the front of a buffer
-pub over-at : (new old : List ℕ) (i : ℕ) → i < length new → getD (over new old) i 0 ≡ getD new i 0
-unfolding over
-over-at new old i l = List·getD-append new (drop (length new) old) 0 i l
-
-past : (n i : ℕ) (l : List ℕ) → n ≤ i → getD l i 0 ≡ getD (drop n l) (i - n) 0
-past n i l h =
-    let parts : i ≡ n + (i - n) = omega arith in
-    ap (λ (k : ℕ). getD l k 0) parts ∙ sym (getD-drop n l (i - n) 0)
-
-pub over-past : (new old : List ℕ) (i : ℕ) → length new ≤ i → getD (over new old) i 0 ≡ getD old i 0
-over-past new old i h =
-    past (length new) i (over new old) h ∙ ap (λ (l : List ℕ). getD l (i - length new) 0) (drop-over (length new) new old (omega arith)) ∙ sym (past (length new) i old h)
-
-pub zeroed-past : (m : ℕ) (w : List ℕ) (i : ℕ) → m ≤ i → getD (zeroed m w) i 0 ≡ getD w i 0
-unfolding zeroed
-zeroed-past m w i h = past m i (zeroed m w) h ∙ ap (λ (l : List ℕ). getD l (i - m) 0) (drop-at (replicate m 0) (drop m w) m (length-replicate {A = ℕ} m 0)) ∙ sym (past m i w h)
-
 pub stays-over : (new old : List ℕ) → length new ≤ length old → StaysFrom (length new) old (over new old)
-stays-over new old l = record { long = length-over new old l; same = over-past new old }
+stays-over new old l = record { long = length-over new old l; same = over-rest new old }
 
 pub stays-zeroed : (m : ℕ) (w : List ℕ) → m ≤ length w → StaysFrom m w (zeroed m w)
-stays-zeroed m w l = record { long = length-zeroed m w l; same = zeroed-past m w }
+stays-zeroed m w l = record { long = length-zeroed m w l; same = zeroed-rest m w }
 
 pub stays-unique : (m : ℕ) (o o′ o″ : List ℕ) → StaysFrom m o o′ → StaysFrom m o o″ → ((i : ℕ) → i < m → getD o′ i 0 ≡ getD o″ i 0) → o′ ≡ o″
 stays-unique m o o′ o″ a b front =
@@ -96,15 +78,15 @@ module _ (n : ℕ) (f : ℕ → Bool) where
   pub first-are-listed : (o : List ℕ) → length (listed n f) ≤ length o → FirstAre n (λ v. f v ≡ true) (length (listed n f)) (over (listed n f) o)
   first-are-listed o h = record {
     within = omega (arith, length-over (listed n f) o h);
-    rising = λ i l. rw (over-at (listed n f) o i (omega arith), over-at (listed n f) o (suc i) l) (listed-rising n f i l);
-    below = λ i l. rw (over-at (listed n f) o i l) (listed-below n f i l);
+    rising = λ i l. rw (over-front (listed n f) o i (omega arith), over-front (listed n f) o (suc i) l) (listed-rising n f i l);
+    below = λ i l. rw (over-front (listed n f) o i l) (listed-below n f i l);
     holds = λ i l.
-        ap f (over-at (listed n f) o i l) ∙ sym (listed-member n f (getD (listed n f) i 0) (listed-below n f i l)) ∙ member-self (listed n f) i l;
+        ap f (over-front (listed n f) o i l) ∙ sym (listed-member n f (getD (listed n f) i 0) (listed-below n f i l)) ∙ member-self (listed n f) i l;
     has = λ v l e. placed v (someOf-at (eqb v) (listed n f) (listed-member n f v l ∙ e));
   }
     where
       placed : (v : ℕ) → Entry (eqb v) (listed n f) → Among (length (listed n f)) (over (listed n f) o) v
-      placed v r = record { at = r .at; within = r .below; is = over-at (listed n f) o (r .at) (r .below) ∙ sym (eqb-true v _ (r .passes)) }
+      placed v r = record { at = r .at; within = r .below; is = over-front (listed n f) o (r .at) (r .below) ∙ sym (eqb-true v _ (r .passes)) }
 
   -- There is one way to write them.
   pub first-are-unique : (m : ℕ) (l : List ℕ) → FirstAre n (λ v. f v ≡ true) m l → take m l ≡ listed n f
