@@ -5,7 +5,7 @@
 -- Letters: I index; w work, o out as lent, w′ o′ as they are; f the test for the nodes listed; F there is room, `fits` its test; r reply.
 use Prim.Native.Nat.{ℕ, _≤_}
 use mathlib.Core.Path.{_≡_, refl, sym, ap, _∙_}
-use mathlib.Core.Logic.{inl}
+use mathlib.Core.Logic.{_↔_, inl}
 use mathlib.Core.List.{List}
 use mathlib.Core.Bool.{Bool, true, cond}
 use native.Mathlib.Omega.{arith}
@@ -16,10 +16,11 @@ use Rattle.seq.specs.Below.{listed}
 use Rattle.seq.specs.Memory.{over}
 use Rattle.seq.specs.Plain.{FirstAre}
 use Rattle.seq.proofs.Laws.Members.{length-listed}
-use Rattle.seq.proofs.Laws.Plain.{first-are-listed, first-are-unique}
+use Rattle.seq.proofs.Laws.Plain.{first-are-map, first-are-listed, first-are-unique}
 use Rattle.index.specs.declared.Reply.{Reply}
 use Rattle.index.specs.Index.{Index, nodes}
 use Rattle.index.specs.Replies.{accepted, ROOM, totalled, checked, workAfter, keptOr}
+use Rattle.index.specs.Plain.{Sized, Right}
 use Rattle.index.proofs.Laws.Replies.{kept-accepted}
 use Rattle.answers.specs.Searches.{outOf, answers, roomed, outFits}
 use Rattle.demands.specs.Calls.{Replied, howMany, ListDemands}
@@ -38,8 +39,19 @@ answers-many I f = length-listed (nodes I) f
 out-many : (I : Index) (f : ℕ → Bool) → length (outOf I f) ≡ howMany I f
 out-many I f = ap length (out-listed I f) ∙ length-listed (nodes I) f
 
-module _ (most : ℕ) (f : ℕ → Bool) (F : Type 0) (fits : Bool) (to : fits ≡ true → F) (of : F → fits ≡ true) (I : Index) (w o : List ℕ)
-    (fit : F → howMany I f ≤ length o) where
+-- Of a right index the test f means the statement P.
+abbrev pub Means : ℕ → Index → ℕ → (ℕ → Bool) → (ℕ → Type 0) → Type 0
+Means most I w f P = Sized most I w → Right I → (v : ℕ) → (f v ≡ true) ↔ P v
+
+-- The nodes listed, by their test.
+pub tested : (most : ℕ) (f : ℕ → Bool) (P : ℕ → Type 0) (F : Type 0) (I : Index) (w o : List ℕ) (r : Reply) (w′ o′ : List ℕ) → Means most I (length w) f P →
+    ListDemands most f P F I w o r w′ o′ → r .refusal ≡ accepted → FirstAre (nodes I) (λ v. f v ≡ true) (r .total) o′
+tested most f P F I w o r w′ o′ plain D q =
+    let h : Sized most I (length w) × Right I × F = D .reply .accepts .0 q in
+    first-are-map (nodes I) P (λ v. f v ≡ true) (r .total) o′ (λ v l. plain (h .0) (h .1) v .1) (λ v l. plain (h .0) (h .1) v .0) (D .lists q)
+
+module _ (most : ℕ) (f : ℕ → Bool) (P : ℕ → Type 0) (F : Type 0) (fits : Bool) (to : fits ≡ true → F) (of : F → fits ≡ true) (I : Index) (w o : List ℕ)
+    (fit : F → howMany I f ≤ length o) (plain : Means most I (length w) f P) where
   abbrev reply : Reply
   reply = checked most I (length w) (roomed I f fits)
 
@@ -60,24 +72,27 @@ module _ (most : ℕ) (f : ℕ → Bool) (F : Type 0) (fits : Bool) (to : fits �
         let new : keptOr r (outOf I f) o ≡ over (listed (nodes I) f) o = kept-accepted r (outOf I f) o q ∙ ap (λ (l : List ℕ). over l o) (out-listed I f) in
         rw (new, many) (first-are-listed (nodes I) f o (omega (arith, out-fits q, ap length (out-listed I f))))
 
-    pub of-reply : (w′ o′ : List ℕ) → w′ ≡ workAfter most I w → o′ ≡ keptOr r (outOf I f) o → ListDemands most f F I w o r w′ o′
+    pub of-reply : (w′ o′ : List ℕ) → w′ ≡ workAfter most I w → o′ ≡ keptOr r (outOf I f) o → ListDemands most f P F I w o r w′ o′
     of-reply w′ o′ ew eo = record {
       reply = D;
       work = rw ew (work-left most I w r (D .size));
       out = rw eo (buffer-left r (r .total) (outOf I f) o out-total out-fits);
-      lists = λ q. rw eo (listed-first q);
+      lists = λ q.
+          let h : Sized most I (length w) × Right I × F = D .accepts .0 q in
+          rw eo (first-are-map (nodes I) (λ v. f v ≡ true) P (r .total) (keptOr r (outOf I f) o) (λ v l. plain (h .0) (h .1) v .0) (λ v l. plain (h .0) (h .1) v .1)
+          (listed-first q));
     }
 
-  pub list-demands : (r : Reply) (w′ o′ : List ℕ) → r ≡ reply → w′ ≡ workAfter most I w → o′ ≡ keptOr r (outOf I f) o → ListDemands most f F I w o r w′ o′
+  pub list-demands : (r : Reply) (w′ o′ : List ℕ) → r ≡ reply → w′ ≡ workAfter most I w → o′ ≡ keptOr r (outOf I f) o → ListDemands most f P F I w o r w′ o′
   list-demands r w′ o′ e = of-reply r (rw (e ∙ reply-is) (replied most I (length w) F fits (howMany I f) to of)) w′ o′
 
-  module _ (r : Reply) (w′ o′ : List ℕ) (D : ListDemands most f F I w o r w′ o′) where
+  module _ (r : Reply) (w′ o′ : List ℕ) (D : ListDemands most f P F I w o r w′ o′) where
     pub list-unique : (r ≡ reply) × (w′ ≡ workAfter most I w) × (o′ ≡ keptOr r (outOf I f) o)
     list-unique = (
       replied-unique most I (length w) F fits (howMany I f) to of r (D .reply) ∙ sym reply-is,
       work-unique most I w r (D .reply .size) w′ (D .work),
       buffer-unique r (r .total) (outOf I f) o (out-total r (D .reply)) (out-fits r (D .reply)) o′ (D .out)
-          (λ q i l. sym (getD-take (r .total) o′ i 0 l) ∙ ap (λ (z : List ℕ). getD z i 0) (first-are-unique (nodes I) f (r .total) o′ (D .lists q) ∙ sym (out-listed I f))),
+          (λ q i l. sym (getD-take (r .total) o′ i 0 l) ∙ ap (λ (z : List ℕ). getD z i 0) (first-are-unique (nodes I) f (r .total) o′ (tested most f P F I w o r w′ o′ plain D q) ∙ sym (out-listed I f))),
     )
 
 -- ---- room in out
@@ -91,19 +106,19 @@ module _ (I : Index) (f : ℕ → Bool) (o : List ℕ) where
   room-out h = le-leb (length (outOf I f)) (length o) (omega (arith, out-many I f))
 
 -- ---- a search that writes to out alone
-module _ (most : ℕ) (f : ℕ → Bool) (I : Index) (w o : List ℕ) (r : Reply) (w′ o′ : List ℕ) where
+module _ (most : ℕ) (f : ℕ → Bool) (P : ℕ → Type 0) (I : Index) (w o : List ℕ) (r : Reply) (w′ o′ : List ℕ) (plain : Means most I (length w) f P) where
   abbrev Demanded : Type 0
-  Demanded = ListDemands most f (howMany I f ≤ length o) I w o r w′ o′
+  Demanded = ListDemands most f P (howMany I f ≤ length o) I w o r w′ o′
 
   abbrev given : Reply
   given = checked most I (length w) (roomed I f (outFits I f o))
 
   pub out-demands : r ≡ given → w′ ≡ workAfter most I w → o′ ≡ keptOr given (outOf I f) o → Demanded
   out-demands e ew eo =
-      list-demands most f _ (outFits I f o) (out-room I f o) (room-out I f o) I w o (λ h. h) r w′ o′ e ew (eo ∙ ap (λ (z : Reply). keptOr z (outOf I f) o) (sym e))
+      list-demands most f P _ (outFits I f o) (out-room I f o) (room-out I f o) I w o (λ h. h) plain r w′ o′ e ew (eo ∙ ap (λ (z : Reply). keptOr z (outOf I f) o) (sym e))
 
   pub out-unique : Demanded → (r ≡ given) × (w′ ≡ workAfter most I w) × (o′ ≡ keptOr given (outOf I f) o)
   out-unique d =
       let u : (r ≡ given) × (w′ ≡ workAfter most I w) × (o′ ≡ keptOr r (outOf I f) o) =
-      list-unique most f _ (outFits I f o) (out-room I f o) (room-out I f o) I w o (λ h. h) r w′ o′ d in
+      list-unique most f P _ (outFits I f o) (out-room I f o) (room-out I f o) I w o (λ h. h) plain r w′ o′ d in
       (u .0, u .1, u .2 ∙ ap (λ (z : Reply). keptOr z (outOf I f) o) (u .0))

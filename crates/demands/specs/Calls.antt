@@ -15,10 +15,11 @@ use Rattle.seq.specs.Below.{sumBelow}
 use Rattle.seq.specs.Plain.{LowestBad, Among, FirstAre, StaysFrom}
 use Rattle.tree.specs.Plain.{NodeKept, Lawful}
 use Rattle.index.specs.declared.Reply.{Reply}
-use Rattle.index.specs.Index.{Index, nodes, words, wanted}
+use Rattle.index.specs.Index.{Index, nodes, words, wanted, unwanted}
 use Rattle.index.specs.Replies.{accepted, SIZE, TREE, LIST, COUNT, ROOM, room}
 use Rattle.index.specs.Plain.{Sized, WordKept, ListsKept, CountKept, CountsKept, Right}
 use Rattle.answers.specs.Answers.{full, credited, credits}
+use Rattle.answers.specs.Plain.{Slca, Elca, ValidSlca}
 use Rattle.answers.specs.Demand3.{LosesNothing, CreditedTo}
 use Rattle.answers.specs.Searches.{isElca, isSlca, isValid}
 
@@ -64,21 +65,22 @@ pub record CheckDemands (I : Index) (w : List ℕ) (r : Reply) (w′ : List ℕ)
 abbrev pub howMany : Index → (ℕ → Bool) → ℕ
 howMany I f = sumBelow (nodes I) λ v. cond (f v) 1 0
 
--- Demand 2 for any search: out's first m entries are the nodes that pass, each once, in document order, and no other; m is their number.
-pub record ListDemands (most : ℕ) (f : ℕ → Bool) (Fits : Type 0) (I : Index) (w o : List ℕ) (r : Reply) (w′ o′ : List ℕ) : Type 0 where
+-- Demand 2 for any search: out's first m entries are the nodes of which P holds, each once, in document order, and no other; m is their number, and f is the
+-- test that they are counted by.
+pub record ListDemands (most : ℕ) (f : ℕ → Bool) (P : ℕ → Type 0) (Fits : Type 0) (I : Index) (w o : List ℕ) (r : Reply) (w′ o′ : List ℕ) : Type 0 where
   pub reply : Replied most I (length w) Fits (howMany I f) r
   pub work : WorkLeft I r w w′
   pub out : BufferLeft r (r .total) o o′
-  pub lists : r .refusal ≡ accepted → FirstAre (nodes I) (λ v. f v ≡ true) (r .total) o′
+  pub lists : r .refusal ≡ accepted → FirstAre (nodes I) P (r .total) o′
 
 -- Valid SLCA: with NOT.
 pub record ValidDemands (I : Index) (w o : List ℕ) (r : Reply) (w′ o′ : List ℕ) : Type 0 where
-  pub search : ListDemands 8 (isValid I) (howMany I (isValid I) ≤ length o) I w o r w′ o′
+  pub search : ListDemands 8 (isValid I) (ValidSlca (I .parents) (I .tags) (I .positive) (wanted I) (I .negative) (unwanted I)) (howMany I (isValid I) ≤ length o) I w o r w′ o′
 
 -- SLCA. Demand 3: the nodes listed lose nothing, and every set of full nodes that loses nothing contains them. A contract speaks of sets that have a test;
 -- `shortest-any` in proofs/Calls says it of any set.
 pub record SlcaDemands (I : Index) (w o : List ℕ) (r : Reply) (w′ o′ : List ℕ) : Type 0 where
-  pub search : ListDemands 0 (isSlca I) (howMany I (isSlca I) ≤ length o) I w o r w′ o′
+  pub search : ListDemands 0 (isSlca I) (Slca (I .parents) (I .positive) (wanted I)) (howMany I (isSlca I) ≤ length o) I w o r w′ o′
   pub losesNothing : r .refusal ≡ accepted → LosesNothing (I .parents) (I .positive) (wanted I) (Among (r .total) o′)
   pub shortest : r .refusal ≡ accepted → (S : ℕ → Bool) → LosesNothing (I .parents) (I .positive) (wanted I) (λ v. S v ≡ true) →
       (v : ℕ) → Among (r .total) o′ v → S v ≡ true
@@ -86,7 +88,7 @@ pub record SlcaDemands (I : Index) (w o : List ℕ) (r : Reply) (w′ o′ : Lis
 -- ELCA. Demand 3: each occurrence is credited to the lowest full node at or above it; own holds the credits of the nodes listed, in word order; and over
 -- all full nodes the credits of a word add up to the length of its list, if any node is full.
 pub record ElcaDemands (I : Index) (w o s : List ℕ) (r : Reply) (w′ o′ s′ : List ℕ) : Type 0 where
-  pub search : ListDemands 0 (isElca I) ((howMany I (isElca I) ≤ length o) × (howMany I (isElca I) * I .positive ≤ length s)) I w o r w′ o′
+  pub search : ListDemands 0 (isElca I) (Elca (I .parents) (I .positive) (wanted I)) ((howMany I (isElca I) ≤ length o) × (howMany I (isElca I) * I .positive ≤ length s)) I w o r w′ o′
   pub own : BufferLeft r (r .total * I .positive) s s′
   pub owns : r .refusal ≡ accepted → (i j : ℕ) → i < r .total → j < I .positive →
       getD s′ (i * I .positive + j) 0 ≡ credits (I .parents) (I .positive) (wanted I) (getD o′ i 0) j
