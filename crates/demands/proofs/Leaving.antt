@@ -12,14 +12,14 @@ use lib.Dec.{eqb}
 use borrow.Author.Tests.{eqb-true, eqb-false}
 use lib.ListN.{length, getD}
 use Rattle.seq.proofs.Laws.Bools.{bool-cases, bool-not-both}
-use Rattle.seq.proofs.Laws.Memory.{zeroed-at, over-front}
-use Rattle.seq.proofs.Laws.Plain.{stays-over, stays-zeroed, stays-unique}
+use Rattle.seq.proofs.Laws.Memory.{over-front}
+use Rattle.seq.proofs.Laws.Plain.{stays-over, stays-unique}
 use Rattle.index.specs.declared.Reply.{Reply}
 use Rattle.index.specs.Index.{Index}
 use Rattle.index.specs.Replies.{accepted, SIZE, room, sizeOk, workAfter, keptOr}
 use Rattle.index.specs.Plain.{Sized}
 use Rattle.index.proofs.Laws.Sizes.{sized-of, sized-yes, sized-no}
-use Rattle.index.proofs.Laws.Replies.{work-sized, work-kept, kept-accepted, kept-refused}
+use Rattle.index.proofs.Laws.Replies.{work-front, work-rest, work-kept, work-length, kept-accepted, kept-refused}
 use Rattle.demands.specs.Calls.{WorkLeft, BufferLeft}
 
 -- ---- work
@@ -31,8 +31,8 @@ module _ (most : ℕ) (I : Index) (w : List ℕ) (r : Reply) (size : (r .refusal
   pub work-left : WorkLeft I r w (workAfter most I w)
   work-left = record {
     untouched = λ q. work-kept most I w (sized-no most I (length w) (size .0 q));
-    zeros = λ ne e l. ap (λ (z : List ℕ). getD z e 0) (work-sized most I w (is-sized ne)) ∙ zeroed-at (room I) w e l;
-    rest = λ ne. rw (work-sized most I w (is-sized ne)) (stays-zeroed (room I) w (sized-of most I (length w) (is-sized ne) .roomy));
+    zeros = λ ne. work-front most I w (is-sized ne);
+    rest = λ ne. record { long = work-length most I w; same = work-rest most I w (is-sized ne) };
   }
 
   pub work-unique : (w′ : List ℕ) → WorkLeft I r w w′ → w′ ≡ workAfter most I w

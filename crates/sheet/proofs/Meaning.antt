@@ -9,7 +9,7 @@
 use Prim.Native.Nat.{ℕ, zero, suc, _+_, _*_, _≤_, _<_}
 use mathlib.Core.Path.{_≡_, refl, sym, ap, ap₂, _∙_}
 use mathlib.Core.Logic.{⊎-elim}
-use mathlib.Core.List.{List, [], _∷_}
+use mathlib.Core.List.{List, []}
 use mathlib.Core.Bool.{Bool, true, false, not, _&&_, false≢true}
 use native.Mathlib.Nat.{zero-mul, suc-mul, not-le-of-lt}
 use native.Mathlib.Omega.{arith}
@@ -19,7 +19,7 @@ use lib.ListN.{length, getD}
 use Rattle.seq.specs.Lists.{tally, sameList}
 use Rattle.seq.proofs.Laws.Bools.{bool-cases, bool-false, bool-not-both, and-left, and-right, and-both, and-false-left, or-cases, or-left, or-right}
 use Rattle.seq.proofs.Laws.Below.{every-at, every-of, first-is, first-below, first-at}
-use Rattle.seq.proofs.Laws.Lists.{tally-append}
+use Rattle.seq.proofs.Laws.Lists.{tally-append, sameList-is, sameList-self}
 use Rattle.seq.proofs.Laws.Numbers.{less-or}
 use Rattle.text.specs.Text.{bytes, lines, fields, numeral, value}
 use Rattle.sheet.specs.declared.Read.the-variants.{Broken, Taken}
@@ -29,18 +29,6 @@ use Rattle.sheet.specs.Plain.{Header, Row, LawfulLines, First, Told}
 use Rattle.sheet.proofs.Tabling.{read-lines, read-broken, read-taken}
 
 -- ---- the header
-same-is : (a b : List ℕ) → sameList a b ≡ true → a ≡ b
-unfolding sameList
-same-is [] [] e = refl
-same-is [] (y ∷ b) e = absurd (false≢true e)
-same-is (x ∷ a) [] e = absurd (false≢true e)
-same-is (x ∷ a) (y ∷ b) e = ap₂ _∷_ (eqb-true x y (and-left (eqb x y) (sameList a b) e)) (same-is a b (and-right (eqb x y) (sameList a b) e))
-
-same-self : (a : List ℕ) → sameList a a ≡ true
-unfolding sameList
-same-self [] = refl
-same-self (x ∷ a) = and-both (eqb x x) _ (eq-eqb x x refl) (same-self a)
-
 tally-times : (f : ℕ → Bool) (m : ℕ) (s : List ℕ) → tally f (times m s) ≡ m * tally f s
 unfolding times tally
 tally-times f zero s = sym (zero-mul (tally f s))
@@ -68,7 +56,7 @@ header-at l e =
       q = negatives l;
       somePositive = leb-true 1 (positives l) (and-left _ (leb (wordsOf l) 8) few);
       fewWords = leb-true (wordsOf l) 8 (and-right (leb 1 (positives l)) _ few);
-      text = same-is l _ (and-right (leb 1 (positives l) && leb (wordsOf l) 8) _ e);
+      text = sameList-is l _ (and-right (leb 1 (positives l) && leb (wordsOf l) 8) _ e);
     }
 
 -- The test of a header, by its words.
@@ -80,7 +68,7 @@ pub header-of : (l : List ℕ) → Header l → headerOk l ≡ true
 header-of l h =
     header-test l (h .p) (h .q) (ap positives (h .text) ∙ header-positives (h .p) (h .q)) (ap negatives (h .text) ∙ header-negatives (h .p) (h .q))
     ∙ and-both _ _ (and-both _ _ (le-leb 1 (h .p) (h .somePositive)) (le-leb (h .p + h .q) 8 (h .fewWords)))
-    (ap (λ (x : List ℕ). sameList l x) (sym (h .text)) ∙ same-self l)
+    (ap (λ (x : List ℕ). sameList l x) (sym (h .text)) ∙ sameList-self l)
 
 -- ---- a node line
 module _ (w : ℕ) (l : List ℕ) where

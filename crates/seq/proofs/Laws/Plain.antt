@@ -4,7 +4,7 @@
 --   first-are-listed   what is listed and written over the front of a buffer stands there as it should
 --   first-are-once, first-are-total, first-are-unique   each number stands there once, and there is one way to write them
 --   first-are-map      the same for a statement that means the same
---   stays-over, stays-zeroed   what is written over the front of a buffer leaves the rest
+--   stays-over         what is written over the front of a buffer leaves the rest
 --   stays-unique       a buffer is fixed by its front and by what stays
 -- Letters: n numbers, l list, m entries; i j k places; f test; o buffer as it was lent, o′ o″ as it is.
 use Prim.Native.Nat.{ℕ, zero, suc, _-_, _≤_, _<_}
@@ -20,14 +20,14 @@ use lib.ListN.{length, getD, take}
 use lib.Seq.{length-take-le, getD-take, ext-getD}
 use Rattle.seq.specs.Below.{firstFail, sumBelow, listed}
 use Rattle.seq.specs.Lists.{someOf}
-use Rattle.seq.specs.Memory.{zeroed, over}
+use Rattle.seq.specs.Memory.{over}
 use Rattle.seq.specs.Plain.{LowestBad, Among, FirstAre, StaysFrom}
 use Rattle.seq.proofs.Laws.Bools.{bool-not-both}
 use Rattle.seq.proofs.Laws.Numbers.{less-or}
 use Rattle.seq.proofs.Laws.Below.{first-below, first-at}
 use Rattle.seq.proofs.Laws.Lists.{Entry, someOf-at, someOf-of}
 use Rattle.seq.proofs.Laws.Members.{Rising, member-self, member-below, rising-unique, listed-below, listed-rising, listed-member, length-listed}
-use Rattle.seq.proofs.Laws.Memory.{length-over, length-zeroed, over-front, over-rest, zeroed-rest}
+use Rattle.seq.proofs.Laws.Memory.{length-over, over-front, over-rest}
 
 -- ---- the lowest bad number
 pub lowest-first : (n : ℕ) (f : ℕ → Bool) (Keeps : ℕ → Type 0) → ((i : ℕ) → i < n → f i ≡ true → Keeps i) → ((i : ℕ) → i < n → Keeps i → f i ≡ true) →
@@ -45,9 +45,6 @@ lowest-unique n Keeps i j a b =
 -- ---- what is written over the front of a buffer
 pub stays-over : (new old : List ℕ) → length new ≤ length old → StaysFrom (length new) old (over new old)
 stays-over new old l = record { long = length-over new old l; same = over-rest new old }
-
-pub stays-zeroed : (m : ℕ) (w : List ℕ) → m ≤ length w → StaysFrom m w (zeroed m w)
-stays-zeroed m w l = record { long = length-zeroed m w l; same = zeroed-rest m w }
 
 pub stays-unique : (m : ℕ) (o o′ o″ : List ℕ) → StaysFrom m o o′ → StaysFrom m o o″ → ((i : ℕ) → i < m → getD o′ i 0 ≡ getD o″ i 0) → o′ ≡ o″
 stays-unique m o o′ o″ a b front =
