@@ -2,4 +2,5 @@ mod Replying
 mod Leaving
 mod Searching
 pub mod Calls
+pub mod Unique
 pub mod Papers
