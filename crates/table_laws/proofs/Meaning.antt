@@ -4,8 +4,7 @@
 --   output-no-list-no-room   on a table that has been read, no search gives LIST or ROOM
 --   refused-line, empty-line, node-lines   a refusal and an empty answer have one line with an empty node field, another answer one line for each node
 --   output-no-nodes  a header with no node lines reaches the searches and gives SIZE
---   output-fits      an output has at most 16,384 bytes
---   output-held      so a buffer of that length holds the whole output
+--   output-fits      an output has at most 16,384 bytes, so an array of that length holds it whole (`output-held` of crate `whole`)
 -- Letters: s input; T table; I index; r reply.
 use Prim.Native.Nat.{ℕ, suc, zero-le, _+_, _*_, _≤_, _<_}
 use mathlib.Core.Path.{_≡_, refl, sym, ap, ap₂, _∙_}
@@ -16,7 +15,7 @@ use native.Mathlib.Nat.{mul-le-mul-right}
 use native.Mathlib.Omega.{arith}
 use borrow.Author.Tests.{le-leb, lt-leb, eq-eqb, ne-eqb, eqb-true}
 use lib.Dec.{eqb, leb}
-use lib.ListN.{length, take, length-append}
+use lib.ListN.{length, length-append}
 use Rattle.seq.specs.Below.{tabulate, listed}
 use Rattle.seq.specs.Lists.{EachBelow}
 use Rattle.seq.proofs.Laws.Bools.{bool-cases, and-both, and-false-left}
@@ -32,9 +31,7 @@ use Rattle.index.specs.Rules.{listsBad, countsBad}
 use Rattle.index.proofs.Laws.Replies.{checked-size, checked-tree, checked-count, checked-all, clean-reply, clean-or-stopped}
 use Rattle.answers.specs.Searches.{isElca, isSlca, isValid, outOf, ownOf, roomed, outFits, ownFits, elcaReply, slcaReply, validReply}
 use Rattle.text.specs.Text.{bytes, lines, decimal}
-use Rattle.text.specs.Buffers.{Wrote}
 use Rattle.text.proofs.Meaning.{length-decimal, decimal-most}
-use Rattle.text.proofs.Laws.Buffers.{front-take}
 use Rattle.sheet.specs.declared.Shape.{Shape}
 use Rattle.sheet.specs.declared.Read.{Read}
 use Rattle.sheet.specs.declared.Read.the-variants.{Broken, Taken}
@@ -271,14 +268,3 @@ output-fits s = by (readOf s) refl
           head-length,
           answers-length (tableOf (lines s)) (taken-small s t (sym e)),
         )
-
--- What is written to a buffer that is long enough.
-pub record Held (s out : List ℕ) (r : ℕ) : Type 0 where
-  pub size : r ≡ length (tableOutput s)
-  pub whole : take r out ≡ tableOutput s
-
-pub output-held : (s o out : List ℕ) (r : ℕ) → 16384 ≤ length o → Wrote (tableOutput s) o out r → Held s out r
-output-held s o out r h w = record { size = here; whole = ap₂ take here (w .holds) ∙ front-take (tableOutput s) o (omega (arith, output-fits s)) }
-  where
-    here : r ≡ length (tableOutput s)
-    here = omega (arith, w .next, output-fits s)
