@@ -32,6 +32,7 @@ abbrev tableIn : Shape → List ℕ → Table
 tableIn t cs = record { positive = t .p; negative = t .q; nodes = t .n; cells = cs }
 
 pub record Taking (s : List ℕ) (t : Shape) : Type 0 where
+  pub somePositive : 1 ≤ t .p
   pub words : t .p + t .q ≤ 8
   pub nodes : t .n ≤ 256
   pub size : length (cellsRead s) ≡ t .n * width (t .p + t .q)
@@ -124,6 +125,7 @@ module _ (s : List ℕ) (t : Shape) (e : readOf s ≡ Taken t) where
   pub taken-at : Taking s t
   unfolding tableOf lines
   taken-at = record {
+    somePositive = omega (arith, p, leb-true 1 (positives l) (and-left (leb 1 (positives l)) _ (and-left (leb 1 (positives l) && leb (wordsOf l) 8) _ lawful)));
     words = omega (arith, p, q, leb-true (wordsOf l) 8 (and-right (leb 1 (positives l)) _ (and-left (leb 1 (positives l) && leb (wordsOf l) 8) _ lawful)));
     nodes = omega (arith, n, few);
     size = ap length all-cells ∙ cells-size w L good ∙ ap₂ (λ (a b : ℕ). a * width b) n (ap₂ _+_ p q);
