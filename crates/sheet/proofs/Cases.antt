@@ -29,11 +29,14 @@ table =
     -- those before the first field that is not good, and nothing of later lines
     ∷ leaves "parent,tag,+,#\r\n0,1,1,2\r\n5,6,7,8\r\n1,1,1,1" (0 ∷ 1 ∷ 1 ∷ 2 ∷ 5 ∷ 6 ∷ [])
     ∷ leaves "parent,tag,+,#\r\n00,1,1,2\r\n5,6,1,8" []
+    ∷ leaves "parent,tag,+,#,-,#\r\n0,1,1,2,2,2" (0 ∷ 1 ∷ 1 ∷ 2 ∷ [])
+    ∷ leaves "parent,tag,+,#\r\n0,1,1,x" (0 ∷ 1 ∷ 1 ∷ [])
     -- a field too few, and too many
     ∷ leaves "parent,tag,+,#\r\n0,1,1\r\n5,6,1,8" (0 ∷ 1 ∷ 1 ∷ [])
     ∷ leaves "parent,tag,+,#\r\n0,1,1,2,3\r\n5,6,1,8" (0 ∷ 1 ∷ 1 ∷ 2 ∷ [])
     -- nothing where the header is wrong
     ∷ leaves "parent,tag,-,#\r\n0,1,1,2" []
+    ∷ leaves "parent,tag,-,#,+,#\r\n0,1,1,2,1,2" []
     ∷ leaves "" []
     -- 256 lines of 257
     ∷ record { input = bytes "parent,tag,+,#\r\n" ++ times 257 (bytes "3,1,0,2\r\n"); cells = times 256 (3 ∷ 1 ∷ 0 ∷ 2 ∷ []) }
