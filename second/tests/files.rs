@@ -145,16 +145,19 @@ fn the_large_set_meets_every_refusal() {
 fn table_inputs_are_what_they_are_called() {
     let mut kinds = BTreeSet::new();
     let mut refusals = BTreeSet::new();
+    let mut above_4096 = 0;
     for number in 0..2_000 {
         let (kind, input) = tables::table_input(9, number);
         kinds.insert(kind);
         let output = String::from_utf8(run(&input)).unwrap();
+        above_4096 += usize::from(output.len() > 4_096);
         let lines: Vec<&str> = output.split("\r\n").collect();
         let valid = lines[lines.len() - 2];
         let refusal: u32 = valid.split(',').nth(1).unwrap().parse().unwrap();
         refusals.insert(refusal);
         match kind {
             "lawful"
+            | "large answers"
             | "no last line end"
             | "256 nodes"
             | "256 nodes, no last line end"
@@ -187,6 +190,7 @@ fn table_inputs_are_what_they_are_called() {
             _ => (),
         }
     }
-    assert_eq!(kinds.len(), tables::BROKEN.len() + 2);
+    assert_eq!(kinds.len(), tables::BROKEN.len() + 3);
+    assert!(above_4096 >= 200, "{above_4096} outputs above 4,096 bytes");
     assert_eq!(refusals, BTreeSet::from([0, 1, 2, 4, 6]));
 }

@@ -5,3 +5,4 @@ mod Rowing
 mod Lining
 mod Tabling
 pub mod Printed
+pub mod Cases

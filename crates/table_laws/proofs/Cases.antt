@@ -51,6 +51,8 @@ table =
     ∷ gives "parent,tag,+,#,+,#\r\n0,1,0,1,0,1\r\n0,2,0,1,0,1\r\n1,0,1,1,0,0\r\n1,0,0,0,1,1" "elca,0,0,1\r\nslca,0,0,1\r\nvalid,0,0,1\r\n"
     -- 01's schedule, case 6: A and NOT X
     ∷ gives "parent,tag,+,#,-,#\r\n0,1,0,3,0,1\r\n0,2,0,2,0,1\r\n1,3,0,1,0,0\r\n2,4,0,1,0,0\r\n3,0,1,1,0,0\r\n2,5,0,0,0,0\r\n5,0,0,0,0,0\r\n1,3,0,1,0,1\r\n7,4,0,1,0,0\r\n8,0,1,1,0,0\r\n7,6,0,0,0,1\r\n10,0,0,0,1,1\r\n0,2,0,0,0,0\r\n12,3,0,0,0,0\r\n13,5,0,0,0,0\r\n14,0,0,0,0,0\r\n0,7,0,1,0,0\r\n16,0,1,1,0,0\r\n" "elca,0,0,4\r\nelca,0,0,9\r\nelca,0,0,17\r\nslca,0,0,4\r\nslca,0,0,9\r\nslca,0,0,17\r\nvalid,0,0,4\r\nvalid,0,0,17\r\n"
+    -- and its cases 1 and 2 with NOT X: what ELCA lists is not what SLCA lists
+    ∷ gives "parent,tag,+,#,+,#,-,#\r\n0,1,0,3,0,2,0,1\r\n0,2,0,2,0,1,0,1\r\n1,3,0,1,0,1,0,0\r\n2,4,0,1,0,0,0,0\r\n3,0,1,1,0,0,0,0\r\n2,5,0,0,0,1,0,0\r\n5,0,0,0,1,1,0,0\r\n1,3,0,1,0,0,0,1\r\n7,4,0,1,0,0,0,0\r\n8,0,1,1,0,0,0,0\r\n7,6,0,0,0,0,0,1\r\n10,0,0,0,0,0,1,1\r\n0,2,0,0,0,1,0,0\r\n12,3,0,0,0,1,0,0\r\n13,5,0,0,0,1,0,0\r\n14,0,0,0,1,1,0,0\r\n0,7,0,1,0,0,0,0\r\n16,0,1,1,0,0,0,0\r\n" "elca,0,0,0\r\nelca,0,0,2\r\nslca,0,0,2\r\nvalid,0,0,2\r\n"
     -- a header alone, with its end and without
     ∷ gives "parent,tag,+,#\r\n" "elca,1,0,\r\nslca,1,0,\r\nvalid,1,0,\r\n"
     ∷ gives "parent,tag,+,#" "elca,1,0,\r\nslca,1,0,\r\nvalid,1,0,\r\n"
@@ -67,7 +69,10 @@ table =
     ∷ breaks "" "1"
     ∷ breaks "\r\n" "1"
     ∷ breaks "parent,tag,+,#\r\n0,1,1,1\r\n\r\n" "3"
-    -- LF alone ends no line, nor does CR
+    -- a last line of one byte
+    ∷ breaks "parent,tag,+,#\r\n0" "2"
+    -- LF alone ends no line, nor does CR, nor LF after another byte
+    ∷ breaks "parent,tag,+,#x\n0,1,1,1" "1"
     ∷ breaks "parent,tag,+,#\n0,1,1,1\n" "1"
     ∷ breaks "parent,tag,+,#\r\n0,1,1,1\n" "2"
     ∷ breaks "parent,tag,+,#\r\n0,1,1,1\r" "2"
@@ -78,17 +83,23 @@ table =
     ∷ breaks "parent,tag,+,#,+,#,+,#,+,#,+,#,+,#,+,#,+,#,+,#" "1"
     ∷ breaks "\"parent\",tag,+,#" "1"
     ∷ breaks "parent, tag,+,#" "1"
-    -- numbers: a leading zero, six digits, a sign, a quoted field, an empty field
+    -- numbers: a leading zero, six digits, a sign, a quoted field, an empty field, the bytes before 0 and after 9
     ∷ breaks "parent,tag,+,#\r\n00,1,1,1" "2"
     ∷ breaks "parent,tag,+,#\r\n0,01,1,1" "2"
     ∷ breaks "parent,tag,+,#\r\n0,100000,1,1" "2"
     ∷ breaks "parent,tag,+,#\r\n0,+1,1,1" "2"
     ∷ breaks "parent,tag,+,#\r\n0,\"1\",1,1" "2"
     ∷ breaks "parent,tag,+,#\r\n0,,1,1" "2"
-    -- whether a word occurs: 0 or 1, one byte
+    ∷ breaks "parent,tag,+,#\r\n0,/,1,1" "2"
+    ∷ breaks "parent,tag,+,#\r\n0,:,1,1" "2"
+    -- and the same of the last field
+    ∷ breaks "parent,tag,+,#\r\n0,1,1,x" "2"
+    ∷ breaks "parent,tag,+,#\r\n0,1,1,01" "2"
+    -- whether a word occurs: 0 or 1, one byte; of a second word too
     ∷ breaks "parent,tag,+,#\r\n0,1,2,1" "2"
     ∷ breaks "parent,tag,+,#\r\n0,1,01,1" "2"
     ∷ breaks "parent,tag,+,#\r\n0,1,,1" "2"
+    ∷ breaks "parent,tag,+,#,-,#\r\n0,1,1,1,2,2" "2"
     -- a field too few, a field too many, a comma at the end
     ∷ breaks "parent,tag,+,#\r\n0,1,1" "2"
     ∷ breaks "parent,tag,+,#\r\n0,1,1,1,1" "2"

@@ -3,20 +3,19 @@
 --                    16,384 bytes and else at the first line, from 1, that breaks one; any other input reaches the searches
 --   output-no-list-no-room   on a table that has been read, no search gives LIST or ROOM
 --   refused-line, empty-line, node-lines   a refusal and an empty answer have one line with an empty node field, another answer one line for each node
---   output-no-nodes  a header with no node lines reaches the searches and gives SIZE
---   output-fits      an output has at most 16,384 bytes
---   output-held      so a buffer of that length holds the whole output
+--   output-no-nodes, output-no-size   a header with no node lines reaches the searches and gives SIZE; a table with one gives no SIZE, whatever its words and nodes
+--   output-fits      an output has at most 16,384 bytes, so an array of that length holds it whole (`output-held` of crate `whole`)
 -- Letters: s input; T table; I index; r reply.
 use Prim.Native.Nat.{ℕ, suc, zero-le, _+_, _*_, _≤_, _<_}
 use mathlib.Core.Path.{_≡_, refl, sym, ap, ap₂, _∙_}
 use mathlib.Core.Logic.{⊎-elim}
 use mathlib.Core.List.{List, [], _∷_, _++_}
-use mathlib.Core.Bool.{Bool, true}
-use native.Mathlib.Nat.{mul-le-mul-right}
+use mathlib.Core.Bool.{Bool, true, false, cond}
+use native.Mathlib.Nat.{mul-le-mul-right, le-trans}
 use native.Mathlib.Omega.{arith}
 use borrow.Author.Tests.{le-leb, lt-leb, eq-eqb, ne-eqb, eqb-true}
-use lib.Dec.{eqb, leb}
-use lib.ListN.{length, take, length-append}
+use lib.Dec.{eqb, ltb, leb}
+use lib.ListN.{length, length-append}
 use Rattle.seq.specs.Below.{tabulate, listed}
 use Rattle.seq.specs.Lists.{EachBelow}
 use Rattle.seq.proofs.Laws.Bools.{bool-cases, and-both, and-false-left}
@@ -26,15 +25,14 @@ use Rattle.seq.proofs.Laws.Gather.{length-tabulate, length-gather, listed-le}
 use Rattle.seq.proofs.Laws.Members.{listed-below}
 use Rattle.index.specs.declared.Reply.{Reply}
 use Rattle.index.specs.Index.{Index, nodes, words}
-use Rattle.index.specs.Replies.{accepted, SIZE, LIST, ROOM, refused, checked, nodesOk, sizeOk}
+use Rattle.index.specs.Replies.{accepted, SIZE, TREE, LIST, COUNT, ROOM, refused, refusing, checked, nodesOk, sizeOk}
 use Rattle.tree.specs.Rules.{treeBad}
 use Rattle.index.specs.Rules.{listsBad, countsBad}
+use Rattle.index.proofs.Laws.Sizes.{sized-yes}
 use Rattle.index.proofs.Laws.Replies.{checked-size, checked-tree, checked-count, checked-all, clean-reply, clean-or-stopped}
 use Rattle.answers.specs.Searches.{isElca, isSlca, isValid, outOf, ownOf, roomed, outFits, ownFits, elcaReply, slcaReply, validReply}
 use Rattle.text.specs.Text.{bytes, lines, decimal}
-use Rattle.text.specs.Buffers.{Wrote}
 use Rattle.text.proofs.Meaning.{length-decimal, decimal-most}
-use Rattle.text.proofs.Laws.Buffers.{front-take}
 use Rattle.sheet.specs.declared.Shape.{Shape}
 use Rattle.sheet.specs.declared.Read.{Read}
 use Rattle.sheet.specs.declared.Read.the-variants.{Broken, Taken}
@@ -119,6 +117,7 @@ neither most I w f b l e =
 
 -- A table that is small enough: as each is that has been read.
 pub record Small (T : Table) : Type 0 where
+  pub somePositive : 1 ≤ T .positive
   pub fewWords : T .positive + T .negative ≤ 8
   pub fewNodes : T .nodes ≤ 256
 
@@ -165,6 +164,55 @@ output-no-list-no-room T m = record {
   elca = elca-neither T m (T .positive) 0 (omega (arith, m .fewWords));
   slca = slca-neither T m (T .positive) 0 (omega (arith, m .fewWords));
   valid = valid-neither T m (T .positive) (T .negative) (m .fewWords);
+}
+
+-- ---- SIZE
+refusing-not : (number at limit : ℕ) (r : Reply) → (number ≡ SIZE → ⊥) → (r .refusal ≡ SIZE → ⊥) → refusing number at limit r .refusal ≡ SIZE → ⊥
+unfolding refusing
+refusing-not number at limit r f g = pick (ltb at limit)
+  where
+    pick : (b : Bool) → cond b (refused number at) r .refusal ≡ SIZE → ⊥
+    pick true = f
+    pick false = g
+
+room-not : (b : Bool) → cond b accepted ROOM ≡ SIZE → ⊥
+room-not true q = omega arith
+room-not false q = omega arith
+
+sized-not : (most : ℕ) (I : Index) (w : ℕ) (f : ℕ → Bool) (b : Bool) → sizeOk most I w ≡ true → checked most I w (roomed I f b) .refusal ≡ SIZE → ⊥
+unfolding checked roomed
+sized-not most I w f b e =
+    rw e (refusing-not TREE _ _ _ (λ q. omega arith) (refusing-not LIST _ _ _ (λ q. omega arith) (refusing-not COUNT _ _ _ (λ q. omega arith) (room-not b))))
+
+module _ (T : Table) (m : Small T) (some : 1 ≤ T .nodes) (p q most : ℕ) (positive : 1 ≤ p) (few : p + q ≤ 8) (negative : q ≤ most) where
+  index-sized : sizeOk most (indexOf T p q) 2560 ≡ true
+  unfolding indexOf
+  index-sized = sized-yes most (indexOf T p q) 2560 (record {
+    someNodes = omega (arith, nodes-are T m p q few);
+    fewNodes = omega (arith, nodes-are T m p q few, m .fewNodes);
+    somePositive = positive;
+    fewPositive = omega arith;
+    fewWords = few;
+    fewNegative = negative;
+    tagged = length-tabulate (T .nodes) _ ∙ sym (nodes-are T m p q few);
+    ended = length-tabulate (p + q) _;
+    counted = length-tabulate ((p + q) * T .nodes) _ ∙ ap (λ (n : ℕ). (p + q) * n) (sym (nodes-are T m p q few));
+    roomy = rw (nodes-are T m p q few) (le-trans (mul-le-mul-right {m = p + q + 2} {n = 10} (T .nodes) (omega arith)) (omega (arith, m .fewNodes)));
+  })
+
+-- No search gives SIZE.
+pub record NoSize (T : Table) : Type 0 where
+  pub elca : elcaReply (indexOf T (T .positive) 0) lentWork lentOut lentOwn .refusal ≡ SIZE → ⊥
+  pub slca : slcaReply (indexOf T (T .positive) 0) lentWork lentOut .refusal ≡ SIZE → ⊥
+  pub valid : validReply (indexOf T (T .positive) (T .negative)) lentWork lentOut .refusal ≡ SIZE → ⊥
+
+pub output-no-size : (T : Table) → Small T → 1 ≤ T .nodes → NoSize T
+unfolding elcaReply slcaReply validReply
+output-no-size T m some = record {
+  elca = sized-not 0 (indexOf T (T .positive) 0) 2560 _ _ (index-sized T m some (T .positive) 0 0 (m .somePositive) (omega (arith, m .fewWords)) (omega arith));
+  slca = sized-not 0 (indexOf T (T .positive) 0) 2560 _ _ (index-sized T m some (T .positive) 0 0 (m .somePositive) (omega (arith, m .fewWords)) (omega arith));
+  valid = sized-not 8 (indexOf T (T .positive) (T .negative)) 2560 _ _
+      (index-sized T m some (T .positive) (T .negative) 8 (m .somePositive) (m .fewWords) (omega (arith, m .fewWords, m .somePositive)));
 }
 
 -- ---- how long an output is
@@ -247,7 +295,7 @@ answers-length T m =
 
 -- A table that has been read is small.
 pub taken-small : (s : List ℕ) (t : Shape) → readOf s ≡ Taken t → Small (tableOf (lines s))
-taken-small s t e = rw (taken-at s t e .table) (record { fewWords = taken-at s t e .words; fewNodes = taken-at s t e .nodes })
+taken-small s t e = rw (taken-at s t e .table) (record { somePositive = taken-at s t e .somePositive; fewWords = taken-at s t e .words; fewNodes = taken-at s t e .nodes })
 
 head-length : length headText ≡ 27
 unfolding headText bytes
@@ -271,14 +319,3 @@ output-fits s = by (readOf s) refl
           head-length,
           answers-length (tableOf (lines s)) (taken-small s t (sym e)),
         )
-
--- What is written to a buffer that is long enough.
-pub record Held (s out : List ℕ) (r : ℕ) : Type 0 where
-  pub size : r ≡ length (tableOutput s)
-  pub whole : take r out ≡ tableOutput s
-
-pub output-held : (s o out : List ℕ) (r : ℕ) → 16384 ≤ length o → Wrote (tableOutput s) o out r → Held s out r
-output-held s o out r h w = record { size = here; whole = ap₂ take here (w .holds) ∙ front-take (tableOutput s) o (omega (arith, output-fits s)) }
-  where
-    here : r ≡ length (tableOutput s)
-    here = omega (arith, w .next, output-fits s)

@@ -3,3 +3,4 @@ pub mod Meaning
 mod Scanning
 mod Writing
 pub mod Written
+pub mod Cases

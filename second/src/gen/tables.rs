@@ -126,6 +126,29 @@ fn long(rng: &mut Rng, n: usize) -> Sheet {
     Sheet::of(&long_call(rng, n, p, q))
 }
 
+/// A lawful table with large answers: most nodes hold every positive word and
+/// have no child.
+fn large(rng: &mut Rng) -> Sheet {
+    let n = rng.range(NODES - 40, NODES);
+    let shape = rng.weighted(&[(6, Shape::Flat), (2, Shape::Wide), (2, Shape::Schedule)]);
+    let tree = tree(rng, n, shape, Tags::Few(3), 50);
+    let (p, q) = (rng.range(1, 3), rng.range(0, 1));
+    let share = rng.range(90, 100);
+    let words = (0..p + q)
+        .map(|j| {
+            let kind = if j < p { Kind::Each(share) } else { Kind::Noted };
+            list(rng, &tree, kind)
+        })
+        .collect();
+    let plan = Plan {
+        search: Search::Valid,
+        tree,
+        words,
+        p,
+    };
+    Sheet::of(&lend(rng, &plan, Room::Exact))
+}
+
 /// A table that only the index check refuses.
 fn refused(rng: &mut Rng) -> Vec<u8> {
     const KINDS: &[Damage] = &[
@@ -577,13 +600,14 @@ pub const BROKEN: &[(&str, Maker)] = &[
 ];
 
 /// Table input `number` of the seed, with the name of its kind. Of twenty in
-/// a row eight are lawful, four have a refused index, and eight are broken,
-/// all ways in turn.
+/// a row five are lawful, three are lawful with large answers, four have a
+/// refused index, and eight are broken, all ways in turn.
 pub fn table_input(seed: u64, number: u64) -> (&'static str, Vec<u8>) {
     let rng = &mut Rng::new(seed, number);
     let (round, place) = (number / 20, number % 20);
     match place {
-        0..=7 => ("lawful", lawful(rng).bytes()),
+        0..=4 => ("lawful", lawful(rng).bytes()),
+        5..=7 => ("large answers", large(rng).bytes()),
         8..=11 => ("refused", refused(rng)),
         _ => {
             let turn = (round * 8 + place - 12) % BROKEN.len() as u64;

@@ -1,17 +1,15 @@
 -- Laws of the output's lines. Assumes nothing.
-use Prim.Native.Nat.{ℕ, min, _≤_, _<_}
+use Prim.Native.Nat.{ℕ, min, _<_}
 use mathlib.Core.Path.{_≡_, refl, sym, ap, _∙_}
 use mathlib.Core.List.{List, [], _∷_, _++_, append-nil, append-assoc}
-use mathlib.Core.Logic.{⊎-elim}
 use mathlib.Core.Bool.{Bool, cond}
 use native.Mathlib.Nat.{not-suc-le-zero}
 use native.Mathlib.Omega.{arith}
 use borrow.Author.Tests.{eq-eqb, ne-eqb}
 use lib.ListN.{length, take}
-use lib.Seq.{take-all}
-use Rattle.seq.proofs.Laws.Numbers.{less-or}
 use Rattle.index.specs.declared.Reply.{Reply}
 use Rattle.text.specs.Text.{decimal}
+use Rattle.text.proofs.Laws.Buffers.{take-min}
 use Rattle.report.specs.Lines.{lineText, nodeLines, answerText, listedBy}
 use Rattle.report.specs.Inner.{Shown}
 
@@ -42,17 +40,9 @@ pub shown-accepted : (r : Reply) (nodes : List ℕ) (m : ℕ) → r .refusal ≡
 unfolding listedBy
 shown-accepted r nodes m e h = record {
   within = omega arith;
-  lists = ap (λ (k : ℕ). take k nodes) h ∙ cut (r .total) nodes
+  lists = take-min (r .total) m nodes h
       ∙ sym (ap (λ (b : Bool). cond b (take (r .total) nodes) []) (eq-eqb (r .refusal) 0 e));
 }
-  where
-    short : (k : ℕ) (l : List ℕ) → k < length l → min k (length l) ≡ k
-    short k l q = omega arith
-
-    cut : (k : ℕ) (l : List ℕ) → take (min k (length l)) l ≡ take k l
-    cut k l =
-        ⊎-elim (λ (q : k < length l). ap (λ (i : ℕ). take i l) (short k l q))
-        (λ (q : length l ≤ k). take-all (min k (length l)) l (omega arith) ∙ sym (take-all k l q)) (less-or k (length l))
 
 pub shown-refused : (r : Reply) (nodes : List ℕ) → (r .refusal ≡ 0 → ⊥) → Shown r nodes 0
 unfolding listedBy

@@ -1,6 +1,7 @@
 -- What is known of a table that has been read. Assumes nothing.
---   taken-at     a text that gives a table keeps every rule: its words and nodes are few, and the cells read are those of the table
--- Letters: s text; t the table's numbers of words and nodes.
+--   taken-at            a text that gives a table keeps every rule: its words and nodes are few, and the cells read are those of the table
+--   read-table-unique   no second outcome fits `read_table`
+-- Letters: s text; t the table's numbers of words and nodes; c the cells lent, a b the cells at the end, r q the result.
 use Prim.Native.Nat.{ℕ, suc, _+_, _-_, _*_, _≤_, _<_}
 use mathlib.Core.Path.{_≡_, sym, ap, ap₂, _∙_}
 use mathlib.Core.Logic.{⊎-elim}
@@ -23,7 +24,7 @@ use Rattle.sheet.specs.declared.Read.{Read}
 use Rattle.sheet.specs.declared.Read.the-variants.{Broken, Taken}
 use Rattle.sheet.specs.Table.{Table, headerText, positives, negatives, wordsOf, headerOk, width, rowOk, lineOk, broken, rowOf, cellsOf, tableOf}
 use Rattle.sheet.specs.Inner.{nodeLineOk}
-use Rattle.sheet.specs.Contracts.{shapeOf, readLines, readOf, cellsRead, rowsRead}
+use Rattle.sheet.specs.Contracts.{shapeOf, readLines, readOf, cellsRead, rowsRead, TableRead}
 use Rattle.sheet.proofs.Lining.{rows-none, rows-read}
 use Rattle.sheet.proofs.Tabling.{read-broken, read-taken}
 
@@ -31,6 +32,7 @@ abbrev tableIn : Shape → List ℕ → Table
 tableIn t cs = record { positive = t .p; negative = t .q; nodes = t .n; cells = cs }
 
 pub record Taking (s : List ℕ) (t : Shape) : Type 0 where
+  pub somePositive : 1 ≤ t .p
   pub words : t .p + t .q ≤ 8
   pub nodes : t .n ≤ 256
   pub size : length (cellsRead s) ≡ t .n * width (t .p + t .q)
@@ -123,6 +125,7 @@ module _ (s : List ℕ) (t : Shape) (e : readOf s ≡ Taken t) where
   pub taken-at : Taking s t
   unfolding tableOf lines
   taken-at = record {
+    somePositive = omega (arith, p, leb-true 1 (positives l) (and-left (leb 1 (positives l)) _ (and-left (leb 1 (positives l) && leb (wordsOf l) 8) _ lawful)));
     words = omega (arith, p, q, leb-true (wordsOf l) 8 (and-right (leb 1 (positives l)) _ (and-left (leb 1 (positives l) && leb (wordsOf l) 8) _ lawful)));
     nodes = omega (arith, n, few);
     size = ap length all-cells ∙ cells-size w L good ∙ ap₂ (λ (a b : ℕ). a * width b) n (ap₂ _+_ p q);
@@ -140,3 +143,11 @@ module _ (s : List ℕ) (t : Shape) (e : readOf s ≡ Taken t) where
 
       lawful : ((leb 1 (positives l) && leb (wordsOf l) 8) && sameList l (headerText (positives l) (negatives l))) ≡ true
       lawful = header-at l header
+
+-- ---- no second outcome fits
+pub record SameRead (r q : Read) (a b : List ℕ) : Type 0 where
+  pub read : r ≡ q
+  pub cells : a ≡ b
+
+pub read-table-unique : (s c : List ℕ) (r q : Read) (a b : List ℕ) → TableRead s c r a → TableRead s c q b → SameRead r q a b
+read-table-unique s c r q a b x y = record { read = x .read ∙ sym (y .read); cells = x .cells ∙ sym (y .cells) }

@@ -3,8 +3,9 @@
 --   adds-push, adds-full       one entry more, where there is room and where there is none
 --   adds-append                one addition after the other
 --   adds-all                   what has been added to a buffer from its start is at its front
+--   take-min                   the first n entries of a list: all where it has fewer
 --   adds-unique                no second outcome fits
-use Prim.Native.Nat.{ℕ, _+_, _≤_, _<_}
+use Prim.Native.Nat.{ℕ, min, _+_, _≤_, _<_}
 use mathlib.Core.Path.{_≡_, refl, sym, ap, ap₂, _∙_}
 use mathlib.Core.List.{List, [], _∷_, _++_, append-nil, append-assoc}
 use mathlib.Core.Logic.{⊎-elim}
@@ -16,6 +17,12 @@ use Rattle.seq.specs.Memory.{over}
 use Rattle.seq.proofs.Laws.Numbers.{less-or}
 use Rattle.seq.proofs.Laws.Memory.{over-snoc, length-over}
 use Rattle.text.specs.Buffers.{front, Wrote, Adds}
+
+pub take-min : (n k : ℕ) (l : List ℕ) → k ≡ min n (length l) → take k l ≡ take n l
+take-min n k l e = ⊎-elim (λ (q : n < length l). ap (λ (i : ℕ). take i l) (short q)) (λ (q : length l ≤ n). take-all k l (omega arith) ∙ sym (take-all n l q)) (less-or n (length l))
+  where
+    short : n < length l → k ≡ n
+    short q = omega arith
 
 pub front-nil : (o : List ℕ) → front [] o ≡ o
 unfolding front over

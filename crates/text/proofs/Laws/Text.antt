@@ -4,6 +4,7 @@
 --   Numeral, numeral-of, numeral-at   what the test for a number means
 --   value-small                       a number of five digits
 --   fields-last, fields-more          the fields of a line, one by one; so lines-none, lines-some
+--   line-end-unique, field-end-unique, number-unique   no second outcome fits `line_end`, `field_end`, `number`
 use Prim.Native.Nat.{ℕ, zero, suc, zero-le, _+_, _*_, _-_, _^_, _≤_, _<_}
 use mathlib.Core.Path.{_≡_, refl, sym, ap, ap₂, _∙_}
 use mathlib.Core.List.{List, [], _∷_}
@@ -211,3 +212,13 @@ lines-some (x ∷ s) h =
     rw (eqb·suc-zero (length s))
     (ap (λ (L : List (List ℕ)). firstLine (x ∷ s) ∷ L)
     (lines-enough (length s) (length (afterLine (x ∷ s))) (afterLine (x ∷ s)) (omega (arith, length-drop (lineLength (x ∷ s) + 2) (x ∷ s))) (omega arith)))
+
+-- ---- no second outcome fits
+pub line-end-unique : (s : List ℕ) (at r q : ℕ) → r ≡ at + lineLength (drop at s) → q ≡ at + lineLength (drop at s) → r ≡ q
+line-end-unique s at r q x y = x ∙ sym y
+
+pub field-end-unique : (l : List ℕ) (at r q : ℕ) → r ≡ at + fieldLength (drop at l) → q ≡ at + fieldLength (drop at l) → r ≡ q
+field-end-unique l at r q x y = x ∙ sym y
+
+pub number-unique : (f : List ℕ) (r q : ℕ) → r ≡ numberOr f → q ≡ numberOr f → r ≡ q
+number-unique f r q x y = x ∙ sym y
