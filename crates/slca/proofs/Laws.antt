@@ -2,6 +2,7 @@
 --   full-flag       the flags made from the counts are those of the full nodes
 --   marks-are       what `mark_slca` makes of them are the marks
 --   mark-slca       a node is marked 1 exactly where it is an SLCA
+--   mark-other, mark-none   2 exactly where it is another full node, and 0 exactly where it is not full
 --   marked-over ..  what `flag_slca` leaves in work where it accepts
 --   marked-unique, slca-unique   no second outcome fits a contract
 use Prim.Native.Nat.{ℕ, suc, _+_, _*_, _≤_, _<_}
@@ -114,6 +115,27 @@ module _ (I : Index) (w : ℕ) (s : Sized 8 I w) (R : Right I) where
       one true true = refl
       one true false = refl
       one false b = refl
+
+  -- 2 exactly where it is full and no SLCA, and 0 exactly where it is not full.
+  pub mark-other : (v : ℕ) → eqb (markBy (I .parents) isFullNode v) 2 ≡ (isFullNode v && not (slca (I .parents) (I .positive) (wanted I) v))
+  unfolding markBy
+  mark-other v =
+      two (isFullNode v) (someBelow (nodes I) (λ c. child (I .parents) v c && isFullNode c))
+      ∙ ap (λ (b : Bool). isFullNode v && not b) (sym (slca-by (I .parents) (R .tree .preorder) (I .positive) (wanted I) (lists-below I R some) v))
+    where
+      two : (a b : Bool) → eqb (cond a (cond b 2 1) 0) 2 ≡ (a && not (a && not b))
+      two true true = refl
+      two true false = refl
+      two false b = refl
+
+  pub mark-none : (v : ℕ) → eqb (markBy (I .parents) isFullNode v) 0 ≡ not (isFullNode v)
+  unfolding markBy
+  mark-none v = none (isFullNode v) (someBelow (nodes I) (λ c. child (I .parents) v c && isFullNode c))
+    where
+      none : (a b : Bool) → eqb (cond a (cond b 2 1) 0) 0 ≡ not a
+      none true true = refl
+      none true false = refl
+      none false b = refl
 
 pub length-marks : (I : Index) → length (slcaMarks I) ≡ nodes I
 unfolding slcaMarks
