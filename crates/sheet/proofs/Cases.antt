@@ -6,7 +6,7 @@ use Prim.Native.Nat.{ℕ}
 use Prim.Native.String.{String}
 use mathlib.Core.Path.{_≡_, refl}
 use mathlib.Core.List.{List, [], _∷_, _++_}
-use mathlib.Core.Bool.{Bool, true}
+use mathlib.Core.Bool.{true}
 use lib.ListN.{replicate}
 use Rattle.seq.specs.Below.{everyBelow, firstFail}
 use Rattle.seq.specs.Lists.{everyOf, tally, sameList}

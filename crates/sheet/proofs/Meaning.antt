@@ -10,22 +10,23 @@ use Prim.Native.Nat.{ℕ, zero, suc, _+_, _*_, _≤_, _<_}
 use mathlib.Core.Path.{_≡_, refl, sym, ap, ap₂, _∙_}
 use mathlib.Core.Logic.{⊎-elim}
 use mathlib.Core.List.{List, []}
-use mathlib.Core.Bool.{Bool, true, false, not, _&&_, false≢true}
-use native.Mathlib.Nat.{zero-mul, suc-mul, not-le-of-lt}
+use mathlib.Core.Bool.{Bool, true, false, not, _&&_}
+use native.Mathlib.Nat.{zero-mul, suc-mul}
 use native.Mathlib.Omega.{arith}
 use borrow.Author.Tests.{le-leb, leb-true, lt-ltb, le-ltb, eq-eqb, eqb-true, not-true}
 use lib.Dec.{eqb, ltb, leb}
 use lib.ListN.{length, getD}
 use Rattle.seq.specs.Lists.{tally, sameList}
 use Rattle.seq.proofs.Laws.Bools.{bool-cases, bool-false, bool-not-both, and-left, and-right, and-both, and-false-left, or-cases, or-left, or-right}
-use Rattle.seq.proofs.Laws.Below.{every-at, every-of, first-is, first-below, first-at}
+use Rattle.seq.proofs.Laws.Below.{every-at, every-of, first-is, first-below, first-all}
+use Rattle.seq.proofs.Laws.Plain.{lowest-first}
 use Rattle.seq.proofs.Laws.Lists.{tally-append, sameList-is, sameList-self}
 use Rattle.seq.proofs.Laws.Numbers.{less-or}
 use Rattle.text.specs.Text.{bytes, lines, fields, numeral, value}
 use Rattle.sheet.specs.declared.Read.the-variants.{Broken, Taken}
 use Rattle.sheet.specs.Table.{times, headerText, positives, negatives, wordsOf, headerOk, occurrence, fieldOk, rowOk, lineOk, broken, tableOf}
 use Rattle.sheet.specs.Contracts.{shapeOf, readOf}
-use Rattle.sheet.specs.Plain.{Header, Row, LawfulLines, First, Told}
+use Rattle.sheet.specs.Plain.{Header, Row, Keeps, LawfulLines, First, Told}
 use Rattle.sheet.proofs.Tabling.{read-lines, read-broken, read-taken}
 
 -- ---- the header
@@ -104,7 +105,7 @@ first-broken L i f = first-is (length L) _ i (omega (arith, f .within)) (f .befo
 
 none-broken : (L : List (List ℕ)) → LawfulLines L → length L ≡ broken L
 unfolding broken
-none-broken L l = first-is (length L) _ (length L) (omega arith) (l .keeps) (λ q. absurd (not-le-of-lt q (omega arith)))
+none-broken L l = sym (first-all (length L) _ (l .keeps))
 
 pub input-long : (s : List ℕ) → 16384 < length s → readOf s ≡ Broken 0
 unfolding readOf
@@ -123,7 +124,7 @@ module _ (s : List ℕ) (h : length s ≤ 16384) where
 
 first-of : (L : List (List ℕ)) → broken L < length L → First L (broken L)
 unfolding broken
-first-of L h = record { within = h; before = first-below (length L) _; breaks = λ e. false≢true (sym (first-at (length L) _ h) ∙ e) }
+first-of L h = lowest-first (length L) _ (Keeps L) (λ i l e. e) (λ i l e. e) h
 
 lawful-of : (L : List (List ℕ)) → length L ≤ broken L → LawfulLines L
 unfolding broken

@@ -11,6 +11,7 @@ use mathlib.Core.Path.{_≡_}
 use mathlib.Core.List.{List, []}
 use mathlib.Core.Bool.{true}
 use lib.ListN.{length, getD}
+use Rattle.seq.specs.Plain.{LowestBad}
 use Rattle.text.specs.Text.{lines, fields, numeral, value}
 use Rattle.sheet.specs.declared.Read.{Read}
 use Rattle.sheet.specs.declared.Read.the-variants.{Broken, Taken}
@@ -36,10 +37,8 @@ Keeps L i = lineOk (wordsOf (getD L 0 [])) i (getD L i []) ≡ true
 pub record LawfulLines (L : List (List ℕ)) : Type 0 where
   pub keeps : (i : ℕ) → i < length L → Keeps L i
 
-pub record First (L : List (List ℕ)) (i : ℕ) : Type 0 where
-  pub within : i < length L
-  pub before : (k : ℕ) → k < i → Keeps L k
-  pub breaks : Keeps L i → ⊥
+abbrev pub First : List (List ℕ) → ℕ → Type 0
+First L i = LowestBad (length L) (Keeps L) i
 
 unfoldable pub Told : List ℕ → Read → Type 0
 Told s (Broken zero) = 16384 < length s

@@ -4,7 +4,7 @@
 use super::damage::{damage, Damage};
 use super::lend::{lend, Plan, Room};
 use super::rng::Rng;
-use super::shape::{tree, Shape, Tags};
+use super::shape::{tree, Shape, Tags, Tree};
 use super::small::plan;
 use super::words::{list, Kind};
 use crate::call::{Call, Search};
@@ -101,13 +101,12 @@ fn lawful(rng: &mut Rng) -> Sheet {
     Sheet::of(&lawful_call(rng))
 }
 
-/// A lawful index of so many nodes.
-fn long_call(rng: &mut Rng, n: usize, p: usize, q: usize) -> Call {
-    let shape = rng.pick(&[Shape::Random, Shape::Deep, Shape::Schedule, Shape::Flat]);
-    let tree = tree(rng, n, shape, Tags::Few(3), 50);
+/// A lawful index over a tree: each of p positive words at a share of the
+/// nodes in a hundred, and q negative words.
+fn call_over(rng: &mut Rng, tree: Tree, share: usize, p: usize, q: usize) -> Call {
     let words = (0..p + q)
         .map(|j| {
-            let kind = if j < p { Kind::Each(20) } else { Kind::Noted };
+            let kind = if j < p { Kind::Each(share) } else { Kind::Noted };
             list(rng, &tree, kind)
         })
         .collect();
@@ -118,6 +117,13 @@ fn long_call(rng: &mut Rng, n: usize, p: usize, q: usize) -> Call {
         p,
     };
     lend(rng, &plan, Room::Exact)
+}
+
+/// A lawful index of so many nodes.
+fn long_call(rng: &mut Rng, n: usize, p: usize, q: usize) -> Call {
+    let shape = rng.pick(&[Shape::Random, Shape::Deep, Shape::Schedule, Shape::Flat]);
+    let tree = tree(rng, n, shape, Tags::Few(3), 50);
+    call_over(rng, tree, 20, p, q)
 }
 
 fn long(rng: &mut Rng, n: usize) -> Sheet {
@@ -134,19 +140,7 @@ fn large(rng: &mut Rng) -> Sheet {
     let tree = tree(rng, n, shape, Tags::Few(3), 50);
     let (p, q) = (rng.range(1, 3), rng.range(0, 1));
     let share = rng.range(90, 100);
-    let words = (0..p + q)
-        .map(|j| {
-            let kind = if j < p { Kind::Each(share) } else { Kind::Noted };
-            list(rng, &tree, kind)
-        })
-        .collect();
-    let plan = Plan {
-        search: Search::Valid,
-        tree,
-        words,
-        p,
-    };
-    Sheet::of(&lend(rng, &plan, Room::Exact))
+    Sheet::of(&call_over(rng, tree, share, p, q))
 }
 
 /// A table that only the index check refuses.
