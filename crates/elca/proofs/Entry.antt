@@ -33,7 +33,7 @@ use Rattle.full.specs.Full.{fullBy}
 use Rattle.full.proofs.Laws.{fullBy-is}
 use Rattle.elca.specs.Inner.Rows.{heldBy}
 use Rattle.elca.specs.Contracts.{ElcaSearched}
-use Rattle.elca.specs.Inner.Steps.{Answered, heldFull, elcaBy, ownBy, SearchPre, Found}
+use Rattle.elca.specs.Inner.Steps.{Answered, heldFull, elcaBy, ownBy, SearchPre, ElcaFound}
 use Rattle.elca.proofs.Searching.{answered-ext}
 
 -- ---- by counts, and by 01's definitions
@@ -148,7 +148,7 @@ module _ (I : Index) (w o s : List ℕ) where
               omega (arith, ap (λ (x : ℕ). heldFull (I .parents) (I .counts) x v j) ek, held-by I right some v j b, held-below I right some v j a b)
 
       -- The answers are 01's.
-      module _ (r′ : Reply) (w₂ o′ s′ : List ℕ) (f : Found (I .parents) (I .counts) k (take used w₁) o s r′ w₂ o′ s′) where
+      module _ (r′ : Reply) (w₂ o′ s′ : List ℕ) (f : ElcaFound (I .parents) (I .counts) k (take used w₁) o s r′ w₂ o′ s′) where
         answers-01 : Answered (nodes I) (I .positive) (isElca I) (ownCount (I .parents) (I .positive) (wanted I)) o s r′ o′ s′
         answers-01 =
             answered-ext (nodes I) (I .positive) _ _ _ _ (elca-is I right some) (own-is I right some) o s r′ o′ s′

@@ -28,7 +28,7 @@ use Rattle.answers.specs.Searches.{outRow}
 use Rattle.full.specs.Full.{fullBy, fullFlags}
 use Rattle.full.proofs.Laws.{fullFlags-at, length-fullFlags}
 use Rattle.elca.specs.Inner.Rows.{flagAt, heldBy, aboveHeld, ownDiff, SumsAndFlags}
-use Rattle.elca.specs.Inner.Steps.{Grid, TakeOffPre, isFlagged, bothFit, Answered, PutPre, heldFull, elcaBy, SearchPre, Found}
+use Rattle.elca.specs.Inner.Steps.{Grid, TakeOffPre, isFlagged, bothFit, Answered, PutPre, heldFull, elcaBy, SearchPre, ElcaFound}
 
 -- ---- answers by one test and one count, or by equal ones
 module _ (n k : ℕ) (f f′ : ℕ → Bool) (g g′ : ℕ → ℕ → ℕ) (ef : (v : ℕ) → v < n → f v ≡ f′ v) (eg : (v j : ℕ) → v < n → j < k → g v j ≡ g′ v j) where
@@ -170,7 +170,7 @@ module _ (p cs : List ℕ) (k : ℕ) (w : List ℕ) (pre : SearchPre p cs k w) w
             one false = refl
 
         pub found : (o s : List ℕ) (r : Reply) (o′ s′ w₄ : List ℕ) → Answered n k (λ v. eqb (flagAt n k w₃ v) 1) (ownDiff cs n k w₃) o s r o′ s′ →
-            w₄ ≡ replicate (length w₃) 0 → Found p cs k w o s r w₄ o′ s′
+            w₄ ≡ replicate (length w₃) 0 → ElcaFound p cs k w o s r w₄ o′ s′
         found o s r o′ s′ w₄ a e = record {
           answers = answered-ext n k _ _ _ _ listed-is (λ v j l h. ap (λ (x : ℕ). getD cs (j * n + v) 0 - x) (held-here v j l h)) o s r o′ s′ a;
           work = e ∙ ap (λ (z : ℕ). replicate z 0) (r₃ .long) ∙ sym (pre .zeros);

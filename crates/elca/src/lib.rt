@@ -8,7 +8,7 @@ ghost use lib.Dec.{eqb};
 ghost use Rattle.index.specs.Contracts.{lent};
 ghost use Rattle.elca.specs.Inner.Rows.{flagAt, ownDiff};
 ghost use Rattle.elca.specs.Contracts.{ElcaSearched};
-ghost use Rattle.elca.specs.Inner.Steps.{Answered, PutPre, SearchPre, Found};
+ghost use Rattle.elca.specs.Inner.Steps.{Answered, PutPre, SearchPre, ElcaFound};
 use index::Reply;
 
 // Lists the flagged nodes with their own counts: ROOM where out or own is short, with the answers needed.
@@ -48,7 +48,7 @@ fn search(
     own: &mut [u32],
 ) -> Reply
     requires { ⌜ SearchPre (now parents) (now counts) k (now work) ⌝ }
-    ensures { λ r. ⌜ Found (now (parents .entry)) (now (counts .entry)) k (now (work .entry)) (now (out .entry)) (now (own .entry)) r
+    ensures { λ r. ⌜ ElcaFound (now (parents .entry)) (now (counts .entry)) k (now (work .entry)) (now (out .entry)) (now (own .entry)) r
         (now (work .exit)) (now (out .exit)) (now (own .exit)) ⌝ }
 {
     let n = parents.len();

@@ -67,12 +67,12 @@ pub twin-of : (p t : List ℕ) (v u : ℕ) → u < length p → Kin p t v u → 
 unfolding twin kin
 twin-of p t v u l k = some-of (length p) (kin p t v) u l (kin-of p t v u k)
 
-pub record Twin (p t : List ℕ) (v : ℕ) : Type 0 where
+pub record TwinFound (p t : List ℕ) (v : ℕ) : Type 0 where
   pub other : ℕ
   pub below : other < length p
   pub akin : Kin p t v other
 
-pub twin-at : (p t : List ℕ) (v : ℕ) → twin p t v ≡ true → Twin p t v
+pub twin-at : (p t : List ℕ) (v : ℕ) → twin p t v ≡ true → TwinFound p t v
 unfolding twin kin
 twin-at p t v e =
     let r : Found (length p) (kin p t v) = some-at (length p) (kin p t v) e in

@@ -22,7 +22,7 @@ use Rattle.twins.specs.Twins.{twinFlag}
 use Rattle.twins.specs.Inner.Order.{tag, entry}
 use Rattle.twins.specs.Inner.Flags.{takenBefore, noted, TakenUp, skipped, alone, paired, TakeUpPre, FlagPre, Flagged}
 use Rattle.twins.proofs.Places.{Once, once-found}
-use Rattle.twins.proofs.Kin.{Kin, kin-back, twin-of, Twin, twin-at}
+use Rattle.twins.proofs.Kin.{Kin, kin-back, twin-of, TwinFound, twin-at}
 
 -- The last child of P taken up stands at place s.
 pub record Late (p : List ℕ) (o : ℕ → ℕ) (i P x : ℕ) : Type 0 where
@@ -351,7 +351,7 @@ module _ (p t : List ℕ) (at last : ℕ) (w₀ : List ℕ) (pre : FlagPre p t a
     where
       flagged : (v : ℕ) → v < length p → (ltb (parent p v) (length p) && twin p t v) ≡ true → getD w v 0 ≡ 1
       flagged v l q =
-          let m : Twin p t v = twin-at p t v (and-right (ltb (parent p v) (length p)) _ q) in
+          let m : TwinFound p t v = twin-at p t v (and-right (ltb (parent p v) (length p)) _ q) in
           let a : Found (length p) (λ s. eqb (o s) v) = once-found (length p) o stands v l in
           let c : Found (length p) (λ s. eqb (o s) (m .other)) = once-found (length p) o stands (m .other) (m .below) in
           let ea : o (a .at) ≡ v = eqb-true (o (a .at)) v (a .passes) in

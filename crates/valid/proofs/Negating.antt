@@ -15,7 +15,7 @@ use Rattle.seq.specs.Lists.{someOf}
 use Rattle.seq.proofs.Laws.Bools.{bool-cases, bool-false, and-left, and-right, and-false-left, and-false-right, or-right}
 use Rattle.seq.proofs.Laws.Lists.{Entry, someOf-at, someOf-take-suc}
 use Rattle.tree.specs.Rules.{text}
-use Rattle.valid.specs.Inner.Tops.{negates, NegatePre, Negated}
+use Rattle.valid.specs.Inner.Tops.{negates, NegatePre, NegatorsMarked}
 
 pub record Negating (l t c w : List ℕ) (i : ℕ) : Type 0 where
   pub within : i ≤ length l
@@ -103,7 +103,7 @@ module _ (l t c : List ℕ) (pre : NegatePre l t c) where
               getD-set-other w e v (length t) 0 ne ∙ s .holds v k
               ∙ ap (λ (b : Bool). cond b (length t) (getD c v 0)) (sym (same v ne))
 
-  pub negating-end : (w : List ℕ) (i : ℕ) → Negating l t c w i → length l ≤ i → Negated l t c w
+  pub negating-end : (w : List ℕ) (i : ℕ) → Negating l t c w i → length l ≤ i → NegatorsMarked l t c w
   negating-end w i s h = record {
     long = s .long;
     holds = λ v k. s .holds v k ∙ ap (λ (z : List ℕ). cond (negates t c z v) (length t) (getD c v 0)) (take-all i l h);

@@ -35,7 +35,7 @@ use Rattle.answers.proofs.Laws.Not.{closest-cases, closest-above}
 use Rattle.entities.specs.Closest.{closestRows}
 use Rattle.entities.proofs.Laws.{before-of, closest-fit, length-closestRows}
 use Rattle.valid.specs.Inner.Steps.{validFlag, RejectPre, Rejected}
-use Rattle.valid.specs.Inner.Tops.{negates, NegatePre, Negated, flagHere, keptFlag, KeepPre, Kept}
+use Rattle.valid.specs.Inner.Tops.{negates, NegatePre, NegatorsMarked, flagHere, keptFlag, KeepPre, Kept}
 use Rattle.valid.proofs.Above.{topOf-ext}
 use Rattle.valid.proofs.Reached.{reached-ext}
 use Rattle.valid.proofs.Stretch.{stretch-some, stretch-within, stretch-below}
@@ -161,7 +161,7 @@ module _ (p t : List ℕ) (k : ℕ) (ends occ w : List ℕ) (pre : RejectPre p t
         solid = λ x l e q. closest-solid p t (pre .tree) x (omega (arith, pre .tagged)) e (ap (λ (z : ℕ). getD t z 0) (sym (row-at x (omega (arith, pre .tagged)))) ∙ q);
       }
 
-      module _ (a₂ : List ℕ) (m₂ : Negated lists t row a₂) where
+      module _ (a₂ : List ℕ) (m₂ : NegatorsMarked lists t row a₂) where
         abbrev w₂ : List ℕ
         w₂ = putMid n (n * 2 - n) w₁ a₂
 

@@ -10,12 +10,12 @@ ghost use lib.ListN.{length};
 ghost use Rattle.index.specs.Contracts.{lent};
 ghost use Rattle.valid.specs.Contracts.{ValidSearched};
 ghost use Rattle.valid.specs.Inner.Steps.{RejectPre, Rejected, Finished};
-ghost use Rattle.valid.specs.Inner.Tops.{NegatePre, Negated};
+ghost use Rattle.valid.specs.Inner.Tops.{NegatePre, NegatorsMarked};
 
 // Over the closest entity of each node: n at the closest entity of each text node of the list. That makes it a negator.
 fn mark(list: &[u32], tags: &[u32], row: &mut [u32])
     requires { ⌜ NegatePre (now list) (now tags) (now row) ⌝ }
-    ensures { λ r. ⌜ Negated (now (list .entry)) (now (tags .entry)) (now (row .entry)) (now (row .exit)) ⌝ }
+    ensures { λ r. ⌜ NegatorsMarked (now (list .entry)) (now (tags .entry)) (now (row .entry)) (now (row .exit)) ⌝ }
 {
     let n = tags.len();
     let mut i: usize = 0;

@@ -98,6 +98,6 @@ pub record SearchPre (p cs : List ℕ) (k : ℕ) (w : List ℕ) : Type 0 where
   pub fits : (v j : ℕ) → v < length p → j < k → sumBelow (length p) (λ c. cond (child p v c) (getD cs (j * length p + c) 0) 0) < 2 ^ 32
   pub below : (v j : ℕ) → v < length p → j < k → heldFull p cs k v j ≤ getD cs (j * length p + v) 0
 
-pub record Found (p cs : List ℕ) (k : ℕ) (w o s : List ℕ) (r : Reply) (w′ o′ s′ : List ℕ) : Type 0 where
+pub record ElcaFound (p cs : List ℕ) (k : ℕ) (w o s : List ℕ) (r : Reply) (w′ o′ s′ : List ℕ) : Type 0 where
   pub answers : Answered (length p) k (elcaBy p cs k) (ownBy p cs k) o s r o′ s′
   pub work : w′ ≡ w

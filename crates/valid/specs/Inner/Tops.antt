@@ -36,7 +36,7 @@ pub record NegatePre (l t c : List ℕ) : Type 0 where
   pub solid : (x : ℕ) → x < length t → getD t x 0 ≡ 0 → getD t (getD c x 0) 0 ≡ 0 → ⊥
 
 -- n stands at each node that is negated, the rest is as it was.
-pub record Negated (l t c c′ : List ℕ) : Type 0 where
+pub record NegatorsMarked (l t c c′ : List ℕ) : Type 0 where
   pub long : length c′ ≡ length t
   pub holds : (v : ℕ) → v < length t → getD c′ v 0 ≡ cond (negates t c l v) (length t) (getD c v 0)
 
