@@ -143,6 +143,13 @@ module _ (I : Index) (w o : List ℕ) (r : Reply) (w′ o′ : List ℕ) where
   shortest-any d q = listed-shortest (d .search) q
 
 -- ---- ELCA
+-- Own holds p numbers for each node listed.
+own-long : (I : Index) → length (ownOf I (isElca I)) ≡ howMany I (isElca I) * I .positive
+unfolding ownOf
+own-long I =
+    length-gather (I .positive) (nodes I) (isElca I) _ (λ v l. length-tabulate (I .positive) (ownCount (I .parents) (I .positive) (wanted I) v))
+    ∙ ap (λ (z : ℕ). z * I .positive) (length-listed (nodes I) (isElca I))
+
 -- There is room for both: the nodes and their own counts.
 module _ (I : Index) (o s : List ℕ) where
   abbrev many : ℕ
@@ -154,23 +161,17 @@ module _ (I : Index) (o s : List ℕ) where
   abbrev fitting : Bool
   fitting = outFits I (isElca I) o && ownFits I (isElca I) s
 
-  own-long : length (ownOf I (isElca I)) ≡ many * I .positive
-  unfolding ownOf
-  own-long =
-      length-gather (I .positive) (nodes I) (isElca I) _ (λ v l. length-tabulate (I .positive) (ownCount (I .parents) (I .positive) (wanted I) v))
-      ∙ ap (λ (z : ℕ). z * I .positive) (length-listed (nodes I) (isElca I))
-
   both-room : fitting ≡ true → Room
   unfolding ownFits
   both-room e = (
     out-room I (isElca I) o (and-left (outFits I (isElca I) o) (ownFits I (isElca I) s) e),
-    omega (arith, own-long, leb-true (length (ownOf I (isElca I))) (length s) (and-right (outFits I (isElca I) o) (ownFits I (isElca I) s) e)),
+    omega (arith, own-long I, leb-true (length (ownOf I (isElca I))) (length s) (and-right (outFits I (isElca I) o) (ownFits I (isElca I) s) e)),
   )
 
   room-both : Room → fitting ≡ true
   unfolding ownFits
   room-both h =
-      and-both (outFits I (isElca I) o) (ownFits I (isElca I) s) (room-out I (isElca I) o (h .0)) (le-leb (length (ownOf I (isElca I))) (length s) (omega (arith, own-long, h .1)))
+      and-both (outFits I (isElca I) o) (ownFits I (isElca I) s) (room-out I (isElca I) o (h .0)) (le-leb (length (ownOf I (isElca I))) (length s) (omega (arith, own-long I, h .1)))
 
 module _ (I : Index) (w o s : List ℕ) (r : Reply) (w′ o′ s′ : List ℕ) where
   abbrev Search : Type 0
@@ -178,10 +179,10 @@ module _ (I : Index) (w o s : List ℕ) (r : Reply) (w′ o′ s′ : List ℕ) 
 
   module _ (D : Search) where
     own-total : r .refusal ≡ accepted → r .total * I .positive ≡ length (ownOf I (isElca I))
-    own-total q = ap (λ (z : ℕ). z * I .positive) (D .reply .total (inl q)) ∙ sym (own-long I o s)
+    own-total q = ap (λ (z : ℕ). z * I .positive) (D .reply .total (inl q)) ∙ sym (own-long I)
 
     own-fits : r .refusal ≡ accepted → length (ownOf I (isElca I)) ≤ length s
-    own-fits q = omega (arith, own-long I o s, D .reply .accepts .0 q .2 .1)
+    own-fits q = omega (arith, own-long I, D .reply .accepts .0 q .2 .1)
 
     module _ (q : r .refusal ≡ accepted) where
       right-elca : Right I

@@ -16,6 +16,7 @@ use Rattle.seq.specs.Below.{listed}
 use Rattle.seq.specs.Memory.{over}
 use Rattle.seq.specs.Plain.{FirstAre}
 use Rattle.seq.proofs.Laws.Members.{length-listed}
+use Rattle.seq.proofs.Laws.Memory.{length-over}
 use Rattle.seq.proofs.Laws.Plain.{first-are-map, first-are-listed, first-are-unique}
 use Rattle.index.specs.declared.Reply.{Reply}
 use Rattle.index.specs.Index.{Index, nodes}
@@ -23,7 +24,7 @@ use Rattle.index.specs.Replies.{accepted, ROOM, totalled, checked, workAfter, k
 use Rattle.index.specs.Plain.{Sized, Right}
 use Rattle.index.proofs.Laws.Replies.{kept-accepted}
 use Rattle.answers.specs.Searches.{outOf, answers, roomed, outFits}
-use Rattle.demands.specs.Calls.{Replied, howMany, ListDemands}
+use Rattle.demands.specs.Calls.{Replied, howMany, Number, ListDemands}
 use Rattle.demands.proofs.Replying.{replied, replied-unique}
 use Rattle.demands.proofs.Leaving.{work-left, work-unique, buffer-left, buffer-unique}
 
@@ -42,6 +43,17 @@ out-many I f = ap length (out-listed I f) ∙ length-listed (nodes I) f
 -- Of a right index the test f means the statement P.
 abbrev pub Means : ℕ → Index → ℕ → (ℕ → Bool) → (ℕ → Type 0) → Type 0
 Means most I w f P = Sized most I w → Right I → (v : ℕ) → (f v ≡ true) ↔ P v
+
+-- Of a right index as many nodes pass the test as P holds of.
+numbered : (most : ℕ) (I : Index) (w : ℕ) (f : ℕ → Bool) (P : ℕ → Type 0) → Means most I w f P → Sized most I w → Right I → Number (nodes I) P (howMany I f)
+numbered most I w f P plain s R =
+    let l : List ℕ = listed (nodes I) f in
+    record {
+      list = over l l;
+      long = length-over l l (omega arith) ∙ length-listed (nodes I) f;
+      are = rw (sym (length-listed (nodes I) f)) (first-are-map (nodes I) (λ v. f v ≡ true) P (length l) (over l l) (λ v h. plain s R v .0) (λ v h. plain s R v .1)
+          (first-are-listed (nodes I) f l (omega arith)));
+    }
 
 -- The nodes listed, by their test.
 pub tested : (most : ℕ) (f : ℕ → Bool) (P : ℕ → Type 0) (F : Type 0) (I : Index) (w o : List ℕ) (r : Reply) (w′ o′ : List ℕ) → Means most I (length w) f P →
@@ -75,6 +87,7 @@ module _ (most : ℕ) (f : ℕ → Bool) (P : ℕ → Type 0) (F : Type 0) (fits
     pub of-reply : (w′ o′ : List ℕ) → w′ ≡ workAfter most I w → o′ ≡ keptOr r (outOf I f) o → ListDemands most f P F I w o r w′ o′
     of-reply w′ o′ ew eo = record {
       reply = D;
+      number = numbered most I (length w) f P plain;
       work = rw ew (work-left most I w r (D .size));
       out = rw eo (buffer-left r (r .total) (outOf I f) o out-total out-fits);
       lists = λ q.

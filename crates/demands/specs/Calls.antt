@@ -2,6 +2,7 @@
 --   Replied …    == demand 1: which reply is given exactly when, with which place and total
 --   WorkLeft …   == what a reply leaves in work
 --   BufferLeft … == what a reply leaves in out or own, of which acceptance writes the first m entries
+--   Number n P m == P holds of m numbers below n
 --   CheckDemands, ElcaDemands, SlcaDemands, ValidDemands   == all that is demanded of a call of each function
 -- proofs/Calls shows that each is the same as the contract of the function. Letters: I index; w, o, s what was lent as work, out and own, w′, o′, s′ what
 -- they are at the end; r reply, m answers; v node, j word, i answer, e entry. Assumes nothing.
@@ -65,10 +66,17 @@ pub record CheckDemands (I : Index) (w : List ℕ) (r : Reply) (w′ : List ℕ)
 abbrev pub howMany : Index → (ℕ → Bool) → ℕ
 howMany I f = sumBelow (nodes I) λ v. cond (f v) 1 0
 
--- Demand 2 for any search: out's first m entries are the nodes of which P holds, each once, in document order, and no other; m is their number, and f is the
--- test that they are counted by.
+-- P holds of m numbers below n: there is a list of them.
+pub record Number (n : ℕ) (P : ℕ → Type 0) (m : ℕ) : Type 0 where
+  pub list : List ℕ
+  pub long : length list ≡ m
+  pub are : FirstAre n P m list
+
+-- Demand 2 for any search: out's first m entries are the nodes of which P holds, each once, in document order, and no other; m is their number. They are counted
+-- by a test f, which of a right index gives the number of nodes of which P holds.
 pub record ListDemands (most : ℕ) (f : ℕ → Bool) (P : ℕ → Type 0) (Fits : Type 0) (I : Index) (w o : List ℕ) (r : Reply) (w′ o′ : List ℕ) : Type 0 where
   pub reply : Replied most I (length w) Fits (howMany I f) r
+  pub number : Sized most I (length w) → Right I → Number (nodes I) P (howMany I f)
   pub work : WorkLeft I r w w′
   pub out : BufferLeft r (r .total) o o′
   pub lists : r .refusal ≡ accepted → FirstAre (nodes I) P (r .total) o′

@@ -12,14 +12,14 @@ pub fn count_flagged(flags: &[u32]) -> usize
     ensures { λ r. ⌜ r ≡ length (listed (length (now (flags .entry))) (flagged (now (flags .entry)))) ⌝ }
 {
     let mut v: usize = 0;
-    let mut m: usize = 0;
+    let mut count: usize = 0;
     while v < flags.len() {
         if flags[v] == 1 {
-            m += 1;
+            count += 1;
         }
         v += 1;
     }
-    m
+    count
 }
 
 // Writes the flagged nodes over the front of out.

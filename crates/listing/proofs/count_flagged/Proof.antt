@@ -8,10 +8,10 @@ use Rattle.listing.proofs.count_flagged.Statement.{statement}
 use Rattle.listing.proofs.count_flagged.Tie as tie
 
 abbrev Inv-loop : tie.InvT-loop
-Inv-loop flags v₀ m₀ v m = CountedTo flags v m
+Inv-loop flags v₀ count₀ v count = CountedTo flags v count
 
 abbrev μ-loop : tie.MeasureT-loop
-μ-loop flags v₀ m₀ v m = length flags - v
+μ-loop flags v₀ count₀ v count = length flags - v
 
 loop-holds : tie.Need-loop-holds Inv-loop μ-loop
 loop-holds c = counted-start _
@@ -22,8 +22,8 @@ mul-if1 c = omega arith
 shared-slice-read-if1 : tie.Need-shared-slice-read-if1 Inv-loop μ-loop
 shared-slice-read-if1 c = omega arith
 
-add-m : tie.Need-add-m Inv-loop μ-loop
-add-m c = omega (arith, c .before .before .before .loop .inv .small, c .before .before .loop-test .taken, c .before .before .before .before .good)
+add-count : tie.Need-add-count Inv-loop μ-loop
+add-count c = omega (arith, c .before .before .before .loop .inv .small, c .before .before .loop-test .taken, c .before .before .before .before .good)
 
 add-v : tie.Need-add-v Inv-loop μ-loop
 add-v c = omega arith
@@ -49,7 +49,7 @@ count-flagged-spec =
     loop-holds
     mul-if1
     shared-slice-read-if1
-    add-m
+    add-count
     add-v
     loop-less
     loop-again
