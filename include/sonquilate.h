@@ -97,8 +97,10 @@ sq_reply sq_slca(const uint32_t *parents, size_t parents_len, const uint32_t *ta
  * q = 0 they are those of sq_slca.
  *   A negator is the closest entity of a text node at which a negative word occurs: the nearest entity above that node, or
  *   the root where there is none. At other nodes a negative word has no effect.
- *   An entity is a node whose parent has another child with its tag. The root, text nodes, and nodes with exactly one child,
- *   which is text, are never entities.
+ *   A node's type is the row of tags from the root down to it, its own tag included. A node is an entity if it, or any
+ *   other node of its type, has a sibling with the same tag: where one train has two legs, the single leg of another train
+ *   is an entity too. The root, text nodes, and nodes with exactly one child, which is text, are never entities; but where
+ *   one of this last kind has a sibling with its tag, this counts for the other nodes of its type.
  * Replies: those of sq_check in its order, then SQ_ROOM where out is shorter than the answers, or SQ_OK. [P: validReply]
  * Buffers: under SQ_OK out begins with the nodes, increasing, and the rest stays. Under a refusal it is as lent. Work as
  * above. [P: validOut, workAfter] */

@@ -1,6 +1,7 @@
-//! A second program for the tree search, written from document 01 alone.
+//! A second program for the tree search, written from document 01 and request
+//! Q-1 of document 02 alone.
 //!
-//! Each file renders some words of 01. Where a literal reading costs too much
+//! Each file renders some words of them. Where a literal reading costs too much
 //! on large trees, a climbing form stands beside it; see `both`.
 
 pub mod both;

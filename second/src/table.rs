@@ -160,14 +160,21 @@ fn put(output: &mut Vec<u8>, name: &str, refusal: u32, place: usize, node: &str)
     output.extend_from_slice(format!("{name},{refusal},{place},{node}\r\n").as_bytes());
 }
 
+/// The calls of ELCA, SLCA and valid SLCA that the input leads to, or the place
+/// of INPUT.
+pub fn calls(input: &[u8]) -> Result<[Call; 3], usize> {
+    let table = read(input)?;
+    Ok([Search::Elca, Search::Slca, Search::Valid].map(|search| call(&table, search)))
+}
+
 /// What the program prints for the input.
 pub fn run(input: &[u8]) -> Vec<u8> {
     let mut output = b"search,refusal,place,node\r\n".to_vec();
-    match read(input) {
+    match calls(input) {
         Err(place) => put(&mut output, "input", INPUT, place, ""),
-        Ok(table) => {
-            for search in [Search::Elca, Search::Slca, Search::Valid] {
-                let After { reply, out, .. } = judge(&call(&table, search));
+        Ok(calls) => {
+            for call in calls {
+                let After { reply, out, .. } = judge(&call);
                 let place = reply.place as usize;
                 let listed = match reply.refusal {
                     ACCEPTED => &out[..reply.total as usize],
@@ -176,14 +183,14 @@ pub fn run(input: &[u8]) -> Vec<u8> {
                 for node in listed {
                     put(
                         &mut output,
-                        search.name(),
+                        call.search.name(),
                         reply.refusal,
                         place,
                         &node.to_string(),
                     );
                 }
                 if listed.is_empty() {
-                    put(&mut output, search.name(), reply.refusal, place, "");
+                    put(&mut output, call.search.name(), reply.refusal, place, "");
                 }
             }
         }

@@ -3,11 +3,13 @@
 
 mod common;
 
-use common::index;
+use common::{index, types_matter};
 use second::call::{Call, Search, COUNT, LIST, SIZE, TREE};
 use second::gen::damage::Damage;
 use second::gen::small::small;
+use second::gen::tables::table_input;
 use second::judge::judge;
+use second::table;
 use second::tree::{level, tree_fault, under};
 use second::{class, count, elca, full, slca, valid};
 
@@ -184,6 +186,30 @@ fn small_cases_are_worth_running() {
     assert!(Damage::ALL
         .iter()
         .all(|kind| kinds.contains_key(&format!("{kind:?}"))));
+}
+
+/// Of how many in a hundred accepted calls with a negative word 01's own rule
+/// for entities gives another answer.
+fn types_share(calls: impl Iterator<Item = Call>) -> usize {
+    let told: Vec<bool> = calls.filter_map(|call| types_matter(&call)).collect();
+    let other = told.iter().filter(|&&other| other).count();
+    println!(
+        "{} accepted with NOT, of {other} 01's rule has another answer",
+        told.len()
+    );
+    share(other, told.len())
+}
+
+#[test]
+fn small_cases_tell_types_from_siblings() {
+    assert!(types_share((0..10_000).map(|number| small(1, number).0)) >= 7);
+}
+
+#[test]
+fn tables_tell_types_from_siblings() {
+    let inputs = (0..2_000).map(|number| table_input(1, number).1);
+    let calls = inputs.filter_map(|input| table::calls(&input).ok());
+    assert!(types_share(calls.map(|[_, _, valid]| valid)) >= 9);
 }
 
 #[test]

@@ -236,6 +236,101 @@ fn classes_and_closest_entities() {
     assert_eq!(closest_entity(&parents, &classes, 7), 0);
 }
 
+/// The search with NOT for one positive and one negative word must list these.
+fn lists_valid(tree: [&[u32]; 2], positive: &[u32], negative: &[u32], nodes: &[u32]) {
+    let [parents, tags] = tree;
+    let call = lawful(Search::Valid, parents, tags, &[positive], &[negative]);
+    let after = judge(&call);
+    assert_eq!(after.reply, listed(nodes.len() as u32));
+    assert_eq!(after.out[..nodes.len()], *nodes);
+}
+
+#[test]
+fn a_train_with_one_leg() {
+    // Two trains. The first has two legs, the second has one and a note; each
+    // leg has two stations.
+    //   0 ( 1 train ( 2 leg ( 3 text 4 text ) 5 leg ( 6 text 7 text ) )
+    //       8 train ( 9 leg ( 10 text 11 text ) 12 note ( 13 text ) ) )
+    let parents = [0, 0, 1, 2, 2, 1, 5, 5, 0, 8, 9, 9, 8, 12];
+    let tags = [1, 2, 3, 0, 0, 3, 0, 0, 2, 3, 0, 0, 4, 0];
+    // NOT on a station of the one leg shuts out this leg alone.
+    lists_valid([&parents, &tags], &[4, 11, 13], &[10], &[4, 13]);
+    // The train that holds the leg stays.
+    lists_valid([&parents, &tags], &[1, 8], &[10], &[1, 8]);
+}
+
+/// The entities of a tree.
+fn entities(parents: &[u32], tags: &[u32]) -> Vec<usize> {
+    let classes = second::class::classes(parents, tags);
+    (0..parents.len())
+        .filter(|&v| classes[v] == second::class::Class::Entity)
+        .collect()
+}
+
+#[test]
+fn a_twin_anywhere_makes_a_type_of_entities() {
+    // 0 ( 1 ( 2 ) 3 ( 4 5 ) 6 ( 7 ) ): twins at the second of three parents.
+    let parents = [0, 0, 1, 0, 3, 3, 0, 6];
+    let tags = [1, 2, 3, 2, 3, 3, 2, 3];
+    assert_eq!(entities(&parents, &tags), [1, 2, 3, 4, 5, 6, 7]);
+    // At none of them: only the parents are twins.
+    assert_eq!(entities(&parents, &[1, 2, 3, 2, 3, 4, 2, 3]), [1, 3, 6]);
+    // Twins need not be neighbours.
+    let parents = [0, 0, 1, 1, 1, 0, 5];
+    let tags = [1, 2, 3, 4, 3, 2, 3];
+    assert_eq!(entities(&parents, &tags), [1, 2, 4, 5, 6]);
+}
+
+#[test]
+fn a_type_is_the_whole_row_of_tags() {
+    // The own tag alone: 0 ( 1 ( 2 3 ) 4 ( 5 ) ), 4 with another tag than 1.
+    assert_eq!(entities(&[0, 0, 1, 1, 0, 4], &[1, 2, 3, 3, 4, 3]), [2, 3]);
+    // The tags of the node and its parent: 0 ( 1 ( 2 3 ) 4 ( 5 ( 6 ) ) ), 5
+    // with the tag of 1.
+    let parents = [0, 0, 1, 1, 0, 4, 5];
+    assert_eq!(entities(&parents, &[1, 2, 3, 3, 4, 2, 3]), [2, 3]);
+    // The same tags, one of them twice: the rows 1,2,3 and 1,2,2,3.
+    let parents = [0, 0, 1, 1, 1, 4];
+    assert_eq!(entities(&parents, &[1, 2, 3, 3, 2, 3]), [2, 3]);
+    // The same tags in another order: the rows 1,2,3,4 and 1,3,2,4.
+    let parents = [0, 0, 1, 2, 2, 0, 5, 6];
+    assert_eq!(entities(&parents, &[1, 2, 3, 4, 4, 3, 2, 4]), [3, 4]);
+    // The level and the tag: the rows 1,1,3 and 1,2,3.
+    assert_eq!(entities(&[0, 0, 1, 1, 0, 4], &[1, 1, 3, 3, 2, 3]), [2, 3]);
+    // The tags above alone: 3 and 4 are twins, and 2 and 6 have other tags.
+    let parents = [0, 0, 1, 1, 1, 0, 5];
+    assert_eq!(entities(&parents, &[1, 2, 5, 3, 3, 2, 6]), [1, 3, 4, 5]);
+}
+
+#[test]
+fn attributes_are_asked_for_a_twin_and_are_no_entities() {
+    // 0 ( 1 ( 2 ( 3 text ) 4 ( 5 text ) ) 6 ( 7 ( 8 text 9 text ) ) 10 ( 11 (
+    // 12 text ) ) ): the twins 2 and 4 are attributes, and so is 11; 7 is of
+    // their type and has two texts.
+    let parents = [0, 0, 1, 2, 1, 4, 0, 6, 7, 7, 0, 10, 11];
+    let tags = [1, 2, 3, 0, 3, 0, 2, 3, 0, 0, 2, 3, 0];
+    assert_eq!(entities(&parents, &tags), [1, 6, 7, 10]);
+    let classes = second::class::classes(&parents, &tags);
+    for v in [2, 4, 11] {
+        assert_eq!(classes[v], second::class::Class::Attribute);
+    }
+    // NOT at 12 shuts out 10, at 8 only 7.
+    lists_valid([&parents, &tags], &[6, 10], &[12], &[6]);
+    lists_valid([&parents, &tags], &[9, 12], &[8], &[12]);
+    lists_valid([&parents, &tags], &[6, 10], &[8], &[6, 10]);
+}
+
+#[test]
+fn a_text_is_no_entity() {
+    // 0 ( 1 ( 2 text 3 text ) 4 ( 5 text 6 ) ): texts with twins, and one of
+    // their type without. NOT at a text shuts out the whole node above it.
+    let parents = [0, 0, 1, 1, 0, 4, 4];
+    let tags = [1, 2, 0, 0, 2, 0, 3];
+    assert_eq!(entities(&parents, &tags), [1, 4]);
+    lists_valid([&parents, &tags], &[3, 6], &[2], &[6]);
+    lists_valid([&parents, &tags], &[3, 6], &[5], &[3]);
+}
+
 #[test]
 fn a_root_negator_strikes_out_everything() {
     let call = lawful(Search::Valid, &[0, 0], &[1, 0], &[&[0]], &[&[1]]);

@@ -113,7 +113,7 @@ fn generators_repeat_themselves() {
 #[test]
 fn the_large_set_meets_every_refusal() {
     let mut refusals = BTreeSet::new();
-    let mut numbers = 0;
+    let (mut numbers, mut asked, mut types_told) = (0, 0, 0);
     for number in 0..large::how_many() {
         let (call, damage) = large::large(1, number);
         numbers += 12 + call.parents.len() + call.tags.len() + call.ends.len() + call.occurrences.len();
@@ -127,6 +127,9 @@ fn the_large_set_meets_every_refusal() {
             call.q
         );
         refusals.insert(reply.refusal);
+        let told = common::types_matter(&call);
+        asked += usize::from(told.is_some());
+        types_told += usize::from(told == Some(true));
         let too_large = call.n() > 65_536;
         assert_eq!(
             damage.is_none() && !too_large,
@@ -134,11 +137,13 @@ fn the_large_set_meets_every_refusal() {
         );
     }
     println!("{} bytes", numbers * 4);
+    println!("{asked} accepted with NOT, of {types_told} 01's rule has another answer");
     assert_eq!(
         refusals,
         BTreeSet::from([ACCEPTED, SIZE, TREE, LIST, COUNT, ROOM])
     );
     assert!(numbers * 4 < 400_000_000);
+    assert!(types_told >= 5);
 }
 
 #[test]

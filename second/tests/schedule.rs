@@ -1,4 +1,6 @@
-//! 01, "A small schedule to work by": cases 1 to 12.
+//! 01, "A small schedule to work by": cases 1 to 12, of which 02, Q-1, changes
+//! two: "In 01's case 7 the negators become 2 and 13; in case 9 the answer
+//! becomes 1,12."
 
 mod common;
 
@@ -93,7 +95,7 @@ fn case_6() {
 #[test]
 fn case_7() {
     let call = call(Search::Valid, &[A], &[Z]);
-    assert_eq!(negators_of(&call), [2, 12]);
+    assert_eq!(negators_of(&call), [2, 13]);
     accepted(&call, &[9, 17], &[]);
 }
 
@@ -106,7 +108,9 @@ fn case_8() {
 
 #[test]
 fn case_9() {
-    accepted(&call(Search::Valid, &[T], &[Z]), &[1], &[]);
+    let call = call(Search::Valid, &[T], &[Z]);
+    assert_eq!(negators_of(&call), [2, 13]);
+    accepted(&call, &[1, 12], &[]);
 }
 
 #[test]

@@ -1,8 +1,9 @@
-//! Wrong programs that look right: the small cases must tell each from 01.
+//! Wrong programs that look right: the small cases must tell each from 01 with
+//! 02's rule for entities.
 
 mod common;
 
-use common::index;
+use common::{index, twins, valid_by};
 use second::call::{Call, Index, Search, COUNT, LIST, SIZE, TREE};
 use second::class::{classes, closest_entity, Class};
 use second::elca::{elca, own_counts};
@@ -13,6 +14,7 @@ use second::list::lists;
 use second::slca::slca;
 use second::tree::{climb, level, under};
 use second::valid::{is_valid, negators, valid};
+use std::collections::BTreeSet;
 
 const CASES: u64 = 6_000;
 const ENOUGH: usize = 5;
@@ -208,11 +210,131 @@ fn text(index: &Index) -> impl Fn(usize) -> bool {
     move |u| tags[u] == 0
 }
 
-fn has_twin(index: &Index, v: usize) -> bool {
-    v != 0
-        && children(index, index.parents[v] as usize)
-            .iter()
-            .any(|&c| c != v && index.tags[c] == index.tags[v])
+/// The row of tags from the root down to each node.
+fn rows(index: &Index) -> Vec<Vec<u32>> {
+    let row = |v: usize| {
+        let mut row: Vec<u32> = climb(index.parents, v).map(|above| index.tags[above]).collect();
+        row.reverse();
+        row
+    };
+    (0..index.n()).map(row).collect()
+}
+
+/// For each node whether some node of its type passes a rule.
+fn of_type(index: &Index, rule: impl Fn(usize) -> bool) -> Vec<bool> {
+    alike(index.n(), &rows(index), rule)
+}
+
+/// For each node whether some node with the same key passes a rule.
+fn alike<K: PartialEq>(n: usize, keys: &[K], rule: impl Fn(usize) -> bool) -> Vec<bool> {
+    (0..n)
+        .map(|v| (0..n).any(|w| keys[w] == keys[v] && rule(w)))
+        .collect()
+}
+
+/// Valid SLCA where the entities are chosen from the nodes that are neither
+/// text nor attribute.
+fn valid_where(index: &Index, chosen: &[bool]) -> Answer {
+    (valid_by(index, |v| chosen[v]), vec![])
+}
+
+/// Valid SLCA where a node's type is this key, and all else is right.
+fn valid_by_key<K: PartialEq>(index: &Index, key: impl Fn(usize) -> K) -> Answer {
+    let keys: Vec<K> = (0..index.n()).map(key).collect();
+    let twins = twins(index);
+    valid_where(index, &alike(index.n(), &keys, |w| twins[w]))
+}
+
+/// Valid SLCA where only some nodes are asked whether they have a twin, for the
+/// node v the nodes w that pass a rule.
+fn valid_asking(index: &Index, asked: impl Fn(&[Vec<u32>], usize, usize) -> bool) -> Answer {
+    let (rows, twins) = (rows(index), twins(index));
+    let entity = |v: usize| (0..index.n()).any(|w| rows[w] == rows[v] && twins[w] && asked(&rows, v, w));
+    (valid_by(index, entity), vec![])
+}
+
+/// The node two levels above v, or the root.
+fn grandparent(index: &Index, v: usize) -> u32 {
+    index.parents[index.parents[v] as usize]
+}
+
+/// Mistakes about types and the rule of 02, Q-1.
+fn type_slips() -> Vec<SearchSlip> {
+    vec![
+        ("only the node's own siblings", |index| {
+            valid_where(index, &twins(index))
+        }),
+        ("a type is the node's own tag", |index| {
+            valid_by_key(index, |v| index.tags[v])
+        }),
+        ("a type is the tags of the parent and the node", |index| {
+            valid_by_key(index, |v| (index.tags[index.parents[v] as usize], index.tags[v]))
+        }),
+        ("a type is the level and the tag", |index| {
+            valid_by_key(index, |v| (level(index.parents, v), index.tags[v]))
+        }),
+        ("a type is the set of tags on the way", |index| {
+            let rows = rows(index);
+            valid_by_key(index, |v| rows[v].iter().copied().collect::<BTreeSet<u32>>())
+        }),
+        ("a type is the tags on the way in any order", |index| {
+            let mut rows = rows(index);
+            rows.iter_mut().for_each(|row| row.sort_unstable());
+            valid_by_key(index, |v| rows[v].clone())
+        }),
+        ("a type ends above the node", |index| {
+            let rows = rows(index);
+            valid_by_key(index, |v| rows[v][..rows[v].len() - 1].to_vec())
+        }),
+        ("attributes of the type not asked for a twin", |index| {
+            let classes = classes(index.parents, index.tags);
+            valid_asking(index, |_, _, w| classes[w] != Class::Attribute)
+        }),
+        ("twins that are attributes not counted", |index| {
+            let classes = classes(index.parents, index.tags);
+            let counts = |v: usize| classes[v] != Class::Attribute;
+            let twin_of = |w: usize, c: usize| c != w && index.tags[c] == index.tags[w] && counts(c);
+            let rule = |w: usize| {
+                let siblings = children(index, index.parents[w] as usize);
+                w != 0 && counts(w) && siblings.iter().any(|&c| twin_of(w, c))
+            };
+            valid_where(index, &of_type(index, rule))
+        }),
+        ("an attribute is an entity where its type has twins", |index| {
+            let twins = twins(index);
+            let entity = of_type(index, |w| twins[w]);
+            let marks = negators_by(index, text(index), |u| {
+                climb(index.parents, u).skip(1).find(|&v| entity[v]).or(Some(0))
+            });
+            valid_with(index, &marks, has_valid)
+        }),
+        ("a text is an entity where its type has twins", |index| {
+            let twins = twins(index);
+            let of_type = of_type(index, |w| twins[w]);
+            let classes = classes(index.parents, index.tags);
+            let marks = negators_by(index, text(index), |u| {
+                climb(index.parents, u)
+                    .find(|&v| classes[v] != Class::Attribute && of_type[v])
+                    .or(Some(0))
+            });
+            valid_with(index, &marks, has_valid)
+        }),
+        ("only the first node of a type asked", |index| {
+            valid_asking(index, |rows, _, w| !rows[..w].contains(&rows[w]))
+        }),
+        ("only the last node of a type asked", |index| {
+            valid_asking(index, |rows, _, w| !rows[w + 1..].contains(&rows[w]))
+        }),
+        ("only nodes up to this one asked", |index| {
+            valid_asking(index, |_, v, w| w <= v)
+        }),
+        ("only nodes from this one on asked", |index| {
+            valid_asking(index, |_, v, w| w >= v)
+        }),
+        ("only nodes with the same grandparent asked", |index| {
+            valid_asking(index, |_, v, w| grandparent(index, v) == grandparent(index, w))
+        }),
+    ]
 }
 
 /// Valid SLCA where only the bits of the mask tell tags apart.
@@ -243,19 +365,12 @@ fn valid_slips() -> Vec<SearchSlip> {
             valid_by_bits(index, !0x7FF)
         }),
         ("twins only side by side", |index| {
-            let classes = classes(index.parents, index.tags);
             let beside = |v: usize| {
                 let all = children(index, index.parents[v] as usize);
                 all.windows(2)
                     .any(|pair| pair.contains(&v) && index.tags[pair[0]] == index.tags[pair[1]])
             };
-            let marks = negators_by(index, text(index), |u| {
-                climb(index.parents, u)
-                    .skip(1)
-                    .find(|&v| classes[v] == Class::Entity && beside(v))
-                    .or(Some(0))
-            });
-            valid_with(index, &marks, has_valid)
+            valid_where(index, &of_type(index, beside))
         }),
         ("NOT ignored", |index| (slca(index), vec![])),
         ("invalid occurrences deleted first", |index| {
@@ -325,15 +440,6 @@ fn valid_slips() -> Vec<SearchSlip> {
             });
             valid_with(index, &marks, has_valid)
         }),
-        ("entity before attribute", |index| {
-            let marks = negators_by(index, text(index), |u| {
-                climb(index.parents, u)
-                    .skip(1)
-                    .find(|&v| has_twin(index, v))
-                    .or(Some(0))
-            });
-            valid_with(index, &marks, has_valid)
-        }),
         ("no fallback to the root", |index| {
             let classes = classes(index.parents, index.tags);
             let marks = negators_by(index, text(index), |u| {
@@ -344,18 +450,12 @@ fn valid_slips() -> Vec<SearchSlip> {
             valid_with(index, &marks, has_valid)
         }),
         ("the root as a twin of its children", |index| {
+            let twins = twins(index);
             let twin = |v: usize| match v {
                 0 => children(index, 0).iter().any(|&c| index.tags[c] == index.tags[0]),
-                _ => has_twin(index, v) || (index.parents[v] == 0 && index.tags[v] == index.tags[0]),
+                _ => twins[v] || (index.parents[v] == 0 && index.tags[v] == index.tags[0]),
             };
-            let classes = classes(index.parents, index.tags);
-            let marks = negators_by(index, text(index), |u| {
-                climb(index.parents, u)
-                    .skip(1)
-                    .find(|&v| classes[v] != Class::Attribute && twin(v))
-                    .or(Some(0))
-            });
-            valid_with(index, &marks, has_valid)
+            valid_where(index, &of_type(index, twin))
         }),
     ]
 }
@@ -374,13 +474,15 @@ fn told_apart(search: Search, right: fn(&Index) -> Answer, slips: Vec<SearchSlip
             told[slip] += usize::from(wrong(&index) != right);
         }
     }
-    for (slip, (name, _)) in slips.iter().enumerate() {
-        println!("{name}: {}", told[slip]);
-        assert!(
-            told[slip] >= ENOUGH,
-            "{name}: told apart by {} cases only",
-            told[slip]
-        );
+    hold(&told, slips.iter().map(|&(name, _)| name));
+}
+
+/// Prints how many cases tell each slip, and holds them to be enough.
+fn hold<'a>(told: &[usize], names: impl Iterator<Item = &'a str>) {
+    let told: Vec<(&str, usize)> = names.zip(told.iter().copied()).collect();
+    told.iter().for_each(|(name, cases)| println!("{name}: {cases}"));
+    for (name, cases) in told {
+        assert!(cases >= ENOUGH, "{name}: told apart by {cases} cases only");
     }
 }
 
@@ -397,6 +499,11 @@ fn slca_slips_are_told_apart() {
 #[test]
 fn valid_slips_are_told_apart() {
     told_apart(Search::Valid, |index| (valid(index), vec![]), valid_slips());
+}
+
+#[test]
+fn type_slips_are_told_apart() {
+    told_apart(Search::Valid, |index| (valid(index), vec![]), type_slips());
 }
 
 fn tree_slips() -> Vec<CheckSlip> {
@@ -620,13 +727,6 @@ fn check_slips_are_told_apart() {
                 told[slip] += usize::from(wrong(&call) != right);
             }
         }
-        for (slip, (name, _)) in slips.iter().enumerate() {
-            println!("{name}: {}", told[slip]);
-            assert!(
-                told[slip] >= ENOUGH,
-                "{name}: told apart by {} cases only",
-                told[slip]
-            );
-        }
+        hold(&told, slips.iter().map(|&(name, _)| name));
     }
 }

@@ -1,6 +1,6 @@
--- Cases at the edges: every refusal and its nearest neighbour that is accepted, two refusals at once, own counts above 1, classes, several negative words.
+-- Cases at the edges: every refusal and its nearest neighbour that is accepted, two refusals at once, own counts above 1, classes, types, several negative words.
 --   edges     == the lines, which Cases adds to 01's own in one table
--- Each is worked out from document 01 by hand. A line that a search accepts stands beside the refusal that it nearly is. Assumes nothing.
+-- Each is worked out by hand from document 01, with 02's Q-1 for entities. A line that a search accepts stands beside the refusal that it nearly is. Assumes nothing.
 use Prim.Native.Nat.{ℕ, zero, suc}
 use mathlib.Core.List.{List, [], _∷_}
 use lib.ListN.{replicate}
@@ -69,6 +69,51 @@ bunch =
 abbrev kinds : Index
 kinds =
     lent (0 ∷ 0 ∷ 1 ∷ 1 ∷ 0 ∷ 4 ∷ 0 ∷ 6 ∷ 7 ∷ 0 ∷ 0 ∷ 0 ∷ 0 ∷ 0 ∷ []) (3 ∷ 2 ∷ 0 ∷ 0 ∷ 2 ∷ 0 ∷ 3 ∷ 4 ∷ 4 ∷ 4 ∷ 0 ∷ 0 ∷ 9 ∷ 9 ∷ []) 1 0 (1 ∷ []) (0 ∷ []) []
+
+-- ---- types (02, Q-1)
+-- A train with one leg. 0 is a timetable with the trains 1 and 8. Train 1 has one leg, 2, and a note, 5; train 8 has the legs 9 and 12, and a note, 15. Each leg and the
+-- first note have two texts: a leg's are its station and its zone. The second note is empty.
+abbrev timetable : List Word → List Word → Index
+timetable W N =
+    ask (0 ∷ 0 ∷ 1 ∷ 2 ∷ 2 ∷ 1 ∷ 5 ∷ 5 ∷ 0 ∷ 8 ∷ 9 ∷ 9 ∷ 8 ∷ 12 ∷ 12 ∷ 8 ∷ []) (1 ∷ 2 ∷ 3 ∷ 0 ∷ 0 ∷ 4 ∷ 0 ∷ 0 ∷ 2 ∷ 3 ∷ 0 ∷ 0 ∷ 3 ∷ 0 ∷ 0 ∷ 4 ∷ []) W N
+
+-- A name that is in the note of train 1 and is a station of its leg and of train 8's first leg.
+abbrev named : Word
+named = word (3 ∷ 6 ∷ 10 ∷ []) (3 ∷ 2 ∷ 1 ∷ 1 ∷ 0 ∷ 1 ∷ 1 ∷ 0 ∷ 1 ∷ 1 ∷ 1 ∷ 0 ∷ 0 ∷ 0 ∷ 0 ∷ 0 ∷ [])
+
+-- The trains.
+abbrev train : Word
+train = word (1 ∷ 8 ∷ []) (2 ∷ 1 ∷ 0 ∷ 0 ∷ 0 ∷ 0 ∷ 0 ∷ 0 ∷ 1 ∷ 0 ∷ 0 ∷ 0 ∷ 0 ∷ 0 ∷ 0 ∷ 0 ∷ [])
+
+-- The zone of train 1's leg, and that with the zone of train 8's second leg.
+abbrev zone : Word
+zone = word (4 ∷ []) (1 ∷ 1 ∷ 1 ∷ 0 ∷ 1 ∷ 0 ∷ 0 ∷ 0 ∷ 0 ∷ 0 ∷ 0 ∷ 0 ∷ 0 ∷ 0 ∷ 0 ∷ 0 ∷ [])
+
+abbrev zones : Word
+zones = word (4 ∷ 14 ∷ []) (2 ∷ 1 ∷ 1 ∷ 0 ∷ 1 ∷ 0 ∷ 0 ∷ 0 ∷ 1 ∷ 0 ∷ 0 ∷ 0 ∷ 1 ∷ 0 ∷ 1 ∷ 0 ∷ [])
+
+-- Rows of tags that are nearly the same; no node here is text or has one text alone. 3 and 4, with the row 1,2,3,4, are twins, and so are 10 and 11, with 1,3,4.
+-- The others of tag 4 have none: 7 has 1,3,2,4, 9 has 1,3,3,4 and 15 has 1,7,2,3,4. No count is asked here.
+abbrev rows : Index
+rows =
+    lent (0 ∷ 0 ∷ 1 ∷ 2 ∷ 2 ∷ 0 ∷ 5 ∷ 6 ∷ 5 ∷ 8 ∷ 5 ∷ 5 ∷ 0 ∷ 12 ∷ 13 ∷ 14 ∷ []) (1 ∷ 2 ∷ 3 ∷ 4 ∷ 4 ∷ 3 ∷ 2 ∷ 4 ∷ 3 ∷ 4 ∷ 4 ∷ 4 ∷ 7 ∷ 2 ∷ 3 ∷ 4 ∷ [])
+    1 0 (1 ∷ []) (0 ∷ []) []
+
+-- Attributes and texts of a type that repeats. 1 and 6 have one tag. 1 has 2 and 4, two of one tag with one text each, 3 and 5; 6 has 7 of their type, with the texts 8 and 9.
+abbrev vias : List Word → List Word → Index
+vias W N = ask (0 ∷ 0 ∷ 1 ∷ 2 ∷ 1 ∷ 4 ∷ 0 ∷ 6 ∷ 7 ∷ 7 ∷ []) (1 ∷ 2 ∷ 3 ∷ 0 ∷ 3 ∷ 0 ∷ 2 ∷ 3 ∷ 0 ∷ 0 ∷ []) W N
+
+-- At the texts 3 and 9.
+abbrev viaTexts : Word
+viaTexts = word (3 ∷ 9 ∷ []) (2 ∷ 1 ∷ 1 ∷ 1 ∷ 0 ∷ 0 ∷ 1 ∷ 1 ∷ 0 ∷ 1 ∷ [])
+
+-- At 2, 6 and 7.
+abbrev viaNodes : Word
+viaNodes = word (2 ∷ 6 ∷ 7 ∷ []) (3 ∷ 1 ∷ 1 ∷ 0 ∷ 0 ∷ 0 ∷ 2 ∷ 1 ∷ 0 ∷ 0 ∷ [])
+
+-- At 6.
+abbrev viaAt6 : Word
+viaAt6 = word (6 ∷ []) (1 ∷ 0 ∷ 0 ∷ 0 ∷ 0 ∷ 0 ∷ 1 ∷ 0 ∷ 0 ∷ 0 ∷ [])
 
 -- ---- several negative words: 1, 4 and 7 are entities below 0, with the texts 2 and 3, 5 and 6, 8 and 9
 abbrev trains : List Word → List Word → Index
@@ -190,6 +235,26 @@ edges =
     -- ---- classes: 1 text, 2 attribute, 3 entity, 4 dummy; the closest entities of the texts 2, 3, 5, 10 and 11
     ∷ edge (classesOf kinds) (are (4 ∷ 3 ∷ 1 ∷ 1 ∷ 2 ∷ 1 ∷ 4 ∷ 4 ∷ 4 ∷ 4 ∷ 1 ∷ 1 ∷ 3 ∷ 3 ∷ []))
     ∷ edge (closestOf kinds (2 ∷ 3 ∷ 5 ∷ 10 ∷ 11 ∷ [])) (are (1 ∷ 1 ∷ 0 ∷ 0 ∷ 0 ∷ []))
+    -- ---- a train with one leg, NOT the leg's zone: the leg 2 alone is shut out, so that the note's text 6 and the train 1 are listed still. The leg is an entity, for
+    -- other legs have twins, though it is the first of its type and has none. A note is no entity: it stands beside legs that are, and two trains have one, but no train two
+    ∷ edge (classesOf (timetable (named ∷ []) (zone ∷ []))) (are (4 ∷ 3 ∷ 3 ∷ 1 ∷ 1 ∷ 4 ∷ 1 ∷ 1 ∷ 3 ∷ 3 ∷ 1 ∷ 1 ∷ 3 ∷ 1 ∷ 1 ∷ 4 ∷ []))
+    ∷ edge (closestOf (timetable (named ∷ []) (zone ∷ [])) (3 ∷ 4 ∷ 6 ∷ 7 ∷ 10 ∷ 14 ∷ [])) (are (2 ∷ 2 ∷ 1 ∷ 1 ∷ 9 ∷ 12 ∷ []))
+    ∷ edge (negatorsOf (timetable (named ∷ []) (zone ∷ []))) (are (2 ∷ []))
+    ∷ edge (validOf (timetable (named ∷ []) (zone ∷ [])) 66 4) (gives 0 0 2 ∷ zeros 64 2 ∷ (6 ∷ 10 ∷ 99 ∷ 99 ∷ []) ∷ [])
+    ∷ edge (validOf (timetable (train ∷ []) (zone ∷ [])) 64 4) (gives 0 0 2 ∷ zeros 64 0 ∷ (1 ∷ 8 ∷ 99 ∷ 99 ∷ []) ∷ [])
+    -- NOT the zone of a leg in each train; out too short for both answers; and without NOT
+    ∷ edge (negatorsOf (timetable (train ∷ []) (zones ∷ []))) (are (2 ∷ 12 ∷ []))
+    ∷ edge (validOf (timetable (named ∷ []) (zones ∷ [])) 64 2) (gives 0 0 2 ∷ zeros 64 0 ∷ (6 ∷ 10 ∷ []) ∷ [])
+    ∷ edge (validOf (timetable (named ∷ []) (zones ∷ [])) 64 1) (gives 5 0 2 ∷ zeros 64 0 ∷ nines 1 ∷ [])
+    ∷ edge (validOf (timetable (named ∷ []) []) 48 3) (gives 0 0 3 ∷ zeros 48 0 ∷ (3 ∷ 6 ∷ 10 ∷ []) ∷ [])
+    -- ---- rows of tags: the order counts, and how often a tag stands in them, and each tag up to the root
+    ∷ edge (classesOf rows) (are (4 ∷ 4 ∷ 4 ∷ 3 ∷ 3 ∷ 4 ∷ 4 ∷ 4 ∷ 4 ∷ 4 ∷ 3 ∷ 3 ∷ 4 ∷ 4 ∷ 4 ∷ 4 ∷ []))
+    -- ---- 7 is an entity, for attributes of its type have twins; attributes and texts with twins stay what they are
+    ∷ edge (classesOf (vias (viaNodes ∷ []) (viaTexts ∷ []))) (are (4 ∷ 3 ∷ 2 ∷ 1 ∷ 2 ∷ 1 ∷ 3 ∷ 3 ∷ 1 ∷ 1 ∷ []))
+    ∷ edge (closestOf (vias (viaNodes ∷ []) (viaTexts ∷ [])) (3 ∷ 5 ∷ 8 ∷ 9 ∷ [])) (are (1 ∷ 1 ∷ 7 ∷ 7 ∷ []))
+    ∷ edge (negatorsOf (vias (viaNodes ∷ []) (viaTexts ∷ []))) (are (1 ∷ 7 ∷ []))
+    ∷ edge (validOf (vias (viaNodes ∷ []) (viaTexts ∷ [])) 40 2) (gives 0 0 0 ∷ zeros 40 0 ∷ nines 2 ∷ [])
+    ∷ edge (validOf (vias (viaAt6 ∷ []) (viaTexts ∷ [])) 40 2) (gives 0 0 1 ∷ zeros 40 0 ∷ (6 ∷ 99 ∷ []) ∷ [])
     -- ---- negative words, each of which matters: one, two, three, and two with one between them that occurs nowhere
     ∷ edge (validOf (trains (firsts ∷ []) (at3 ∷ [])) 40 3) (gives 0 0 2 ∷ zeros 40 0 ∷ (5 ∷ 8 ∷ 99 ∷ []) ∷ [])
     ∷ edge (validOf (trains (firsts ∷ []) (at3 ∷ at6 ∷ [])) 50 3) (gives 0 0 1 ∷ zeros 50 0 ∷ (8 ∷ 99 ∷ 99 ∷ []) ∷ [])

@@ -9,19 +9,21 @@
 --   valid-002                 a match is valid by 01 exactly where it is valid by Definition 2 and is itself no negator
 --   valid-differs             so what is valid by Definition 2 alone is itself a negator and has none above it
 --   valid-slca-more           every valid SLCA of 01 is one by Definitions 2 to 4
---   differs-at-12             and not the other way round: T, NOT Z of case 9, at node 12
+--   differs-at-13             and not the other way round: a word at node 13, NOT Z, on the schedule
+-- Entities are those of 02's Q-1 throughout. The paper says: "A node denotes an entity if its tag name is identical to its siblings, such as a *-node in the XML DTD."
+-- Q-1 takes this by type, as a DTD's star is declared for all such nodes at once: where one node of a type has such a sibling, all of them are entities.
 -- Letters: p parents, t tags; k words and W their lists, q negative words and N theirs; neg the test for negators; v node, u another, x match, j word, i clause.
 use Prim.Native.Nat.{ℕ, zero, suc, _<_}
 use mathlib.Core.Path.{_≡_, refl, sym, ap, _∙_}
 use mathlib.Core.Logic.{_↔_, _⊎_, inl, inr, ⊎-elim}
-use mathlib.Core.List.{List}
+use mathlib.Core.List.{List, [], _∷_}
 use mathlib.Core.Bool.{Bool, true, false, not, _&&_}
 use native.Mathlib.Omega.{arith}
 use lib.Dec.{eqb, ltb}
 use borrow.Author.Tests.{ne-eqb, ltb-true}
 use lib.ListN.{length, getD}
 use Rattle.seq.specs.Below.{everyBelow, someBelow, sumBelow}
-use Rattle.seq.specs.Lists.{someOf, firstOf, EachBelow}
+use Rattle.seq.specs.Lists.{someOf, firstOf, sameList, EachBelow}
 use Rattle.seq.proofs.Laws.Bools.{bool-cases, bool-false, bool-not-both, and-left, and-right, and-both}
 use Rattle.seq.proofs.Laws.Below.{every-at}
 use Rattle.seq.proofs.Laws.Lists.{Entry}
@@ -30,20 +32,20 @@ use Rattle.tree.specs.Rules.{text}
 use Rattle.tree.specs.Plain.{Under, Down, Preorder}
 use Rattle.tree.proofs.Laws.Lines.{under-self}
 use Rattle.tree.proofs.Laws.Ways.{properly-under, properly-ne, under-or}
-use Rattle.index.specs.Index.{wanted, start, wordList}
+use Rattle.index.specs.Index.{Index, wanted, start, wordList}
 use Rattle.answers.specs.Answers.{full, slca}
-use Rattle.answers.specs.Classes.{children, oneText, sibling, twin, classOf, entity, closest}
+use Rattle.answers.specs.Classes.{children, oneText, sibling, twin, typeOf, sameType, repeats, classOf, entity, closest}
 use Rattle.answers.specs.Not.{negator, valid, validSlca}
 use Rattle.answers.specs.Searches.{isNegator, isValid}
 use Rattle.answers.specs.Plain.{Text, Entity, Ancestor, Closest, nearest, root, Negator}
 use Rattle.answers.proofs.Laws.Not.{valid-none, valid-of, valid-slca-slca, valid-slca-at, valid-slca-of}
 use Rattle.answers.proofs.Laws.Meaning.{negator-plain}
 use Rattle.answers.proofs.Papers.{Slca002, slca-002}
-use Rattle.answers.proofs.Claims.{size, endsFrom, allLists, allCounts, ask}
-use Rattle.answers.proofs.Cases.{T¬Z}
+use Rattle.answers.proofs.Claims.{Word, word, size, endsFrom, allLists, allCounts, ask}
+use Rattle.answers.proofs.Cases.{Z, schedule}
 
 -- ---- the paper's definitions
--- "The closest entity of node n refers to the lowest entity node that are the ancestor of n." With 01's entities.
+-- "The closest entity of node n refers to the lowest entity node that are the ancestor of n." With the entities of 02's Q-1.
 pub record Closest002 (p t : List ℕ) (x v : ℕ) : Type 0 where
   pub entity : Entity p t v
   pub ancestor : Ancestor p v x
@@ -188,30 +190,36 @@ module _ (p : List ℕ) (o : Preorder p (length p)) (k : ℕ) (W : ℕ → List 
           still j m = record { place = m .place; within = m .within; below = m .below; valid = valid-002 p neg (getD (W j) (m .place) 0) .0 (m .valid) .1 }
 
 -- ---- a case
--- T, NOT Z on the schedule: 12 is a negator, T occurs there, and no negator is above it.
-preorder-T¬Z : Preorder (T¬Z .parents) (length (T¬Z .parents))
+-- A word at node 13 alone, NOT Z, on the schedule: 13 is a negator, the word occurs there, and no negator is above it.
+abbrev at13 : Word
+at13 = word (13 ∷ []) (1 ∷ 0 ∷ 0 ∷ 0 ∷ 0 ∷ 0 ∷ 0 ∷ 0 ∷ 0 ∷ 0 ∷ 0 ∷ 0 ∷ 1 ∷ 1 ∷ 0 ∷ 0 ∷ 0 ∷ 0 ∷ [])
+
+abbrev pub at13¬Z : Index
+at13¬Z = schedule (at13 ∷ []) (Z ∷ [])
+
+preorder-at13¬Z : Preorder (at13¬Z .parents) (length (at13¬Z .parents))
 unfolding everyBelow someOf climb line under ask
-preorder-T¬Z i l = every-at 17 (λ i. under (T¬Z .parents) (parent (T¬Z .parents) (suc i)) i) refl i (omega arith)
+preorder-at13¬Z i l = every-at 17 (λ i. under (at13¬Z .parents) (parent (at13¬Z .parents) (suc i)) i) refl i (omega arith)
 
-lists-T¬Z : (j : ℕ) → j < T¬Z .positive → EachBelow (length (T¬Z .parents)) (wanted T¬Z j)
+lists-at13¬Z : (j : ℕ) → j < at13¬Z .positive → EachBelow (length (at13¬Z .parents)) (wanted at13¬Z j)
 unfolding everyBelow start wordList size endsFrom allLists allCounts ask
-lists-T¬Z zero l i h = ltb-true _ 18 (every-at 2 (λ i. ltb (getD (wanted T¬Z 0) i 0) 18) refl i h)
-lists-T¬Z (suc j) l i h = absurd (omega arith)
+lists-at13¬Z zero l i h = ltb-true _ 18 (every-at 1 (λ i. ltb (getD (wanted at13¬Z 0) i 0) 18) refl i h)
+lists-at13¬Z (suc j) l i h = absurd (omega arith)
 
--- By Definition 2 the match at 12 is valid and 12 is a valid SLCA; by 01 it is none (case 9).
-pub differs-at-12 :
-    ValidSlca002 (T¬Z .parents) 1 (λ i u. Candidate002 (T¬Z .parents) (T¬Z .positive) (wanted T¬Z) (Valid002 (T¬Z .parents) (isNegator T¬Z)) u) 0 12
-    × (isValid T¬Z 12 ≡ false)
-unfolding everyBelow someBelow sumBelow someOf firstOf climb line under properly child text start wordList full slca children oneText sibling twin classOf entity closest negator valid validSlca isNegator isValid size endsFrom allLists allCounts ask
-differs-at-12 = (
-  one-clause (T¬Z .parents) (λ i u. Candidate002 (T¬Z .parents) (T¬Z .positive) (wanted T¬Z) (Valid002 (T¬Z .parents) (isNegator T¬Z)) u) 12 .0
+-- By Definition 2 the match at 13 is valid and 13 is a valid SLCA; by 01 it is none.
+pub differs-at-13 :
+    ValidSlca002 (at13¬Z .parents) 1 (λ i u. Candidate002 (at13¬Z .parents) (at13¬Z .positive) (wanted at13¬Z) (Valid002 (at13¬Z .parents) (isNegator at13¬Z)) u) 0 13
+    × (isValid at13¬Z 13 ≡ false)
+unfolding everyBelow someBelow sumBelow someOf firstOf sameList climb line under properly child text start wordList full slca children oneText sibling twin typeOf sameType repeats classOf entity closest negator valid validSlca isNegator isValid size endsFrom allLists allCounts ask
+differs-at-13 = (
+  one-clause (at13¬Z .parents) (λ i u. Candidate002 (at13¬Z .parents) (at13¬Z .positive) (wanted at13¬Z) (Valid002 (at13¬Z .parents) (isNegator at13¬Z)) u) 13 .0
       (record {
-        slca = slca-002 (T¬Z .parents) preorder-T¬Z (T¬Z .positive) (wanted T¬Z) lists-T¬Z 12 .1 refl;
+        slca = slca-002 (at13¬Z .parents) preorder-at13¬Z (at13¬Z .positive) (wanted at13¬Z) lists-at13¬Z 13 .1 refl;
         valid = at;
       }),
   refl,
 )
   where
-    at : (j : ℕ) → j < T¬Z .positive → ValidMatch (T¬Z .parents) (wanted T¬Z j) (Valid002 (T¬Z .parents) (isNegator T¬Z)) 12
-    at zero l = record { place = 1; within = omega arith; below = refl; valid = valid-002-test (T¬Z .parents) (isNegator T¬Z) 12 refl }
+    at : (j : ℕ) → j < at13¬Z .positive → ValidMatch (at13¬Z .parents) (wanted at13¬Z j) (Valid002 (at13¬Z .parents) (isNegator at13¬Z)) 13
+    at zero l = record { place = 0; within = omega arith; below = refl; valid = valid-002-test (at13¬Z .parents) (isNegator at13¬Z) 13 refl }
     at (suc j) l = absurd (omega arith)

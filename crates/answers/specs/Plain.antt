@@ -3,6 +3,8 @@
 --   Child p v c               == c is a node other than the root, and its parent is v
 --   OneText p t v             == v has exactly one child, and that child is text
 --   Twin p t v                == another child of the same parent has the same tag
+--   SameType p t u v          == both are the root; or neither is, they have one tag, and their parents are of one type
+--   Repeats p t v             == some node of v's type has a twin
 --   Attribute, Entity, Dummy  == each the first rule that fits, so that those before it do not
 --   Fits p t v c              == v is of class c
 --   Ancestor p v u            == v is an ancestor of u, and not u itself
@@ -13,7 +15,7 @@
 --   Valid p t q N x           == neither x nor any ancestor of x is a negator
 --   ValidSlca p t k W q N v   == v is an SLCA under which every positive word has a valid occurrence
 -- Letters: p parents, t tags; k words and W their lists, q negative words and N theirs; v node, u and w nodes, c child, x occurrence, j word. Assumes nothing.
-use Prim.Native.Nat.{ℕ, _<_}
+use Prim.Native.Nat.{ℕ, suc, _<_}
 use mathlib.Core.Path.{_≡_}
 use mathlib.Core.List.{List}
 use lib.ListN.{length, getD}
@@ -44,6 +46,16 @@ pub record Twin (p t : List ℕ) (v : ℕ) : Type 0 where
   pub another : other ≡ v → ⊥
   pub sameTag : getD t other 0 ≡ getD t v 0
 
+pub data SameType (p t : List ℕ) : ℕ → ℕ → Type 0 where
+  roots : SameType p t 0 0
+  children : {u v : ℕ} → getD t (suc u) 0 ≡ getD t (suc v) 0 → SameType p t (parent p (suc u)) (parent p (suc v)) → SameType p t (suc u) (suc v)
+
+pub record Repeats (p t : List ℕ) (v : ℕ) : Type 0 where
+  pub node : ℕ
+  pub below : node < length p
+  pub sameType : SameType p t node v
+  pub twin : Twin p t node
+
 pub record Attribute (p t : List ℕ) (v : ℕ) : Type 0 where
   pub noText : Text t v → ⊥
   pub oneText : OneText p t v
@@ -51,12 +63,12 @@ pub record Attribute (p t : List ℕ) (v : ℕ) : Type 0 where
 pub record Entity (p t : List ℕ) (v : ℕ) : Type 0 where
   pub noText : Text t v → ⊥
   pub noAttribute : OneText p t v → ⊥
-  pub twin : Twin p t v
+  pub repeats : Repeats p t v
 
 pub record Dummy (p t : List ℕ) (v : ℕ) : Type 0 where
   pub noText : Text t v → ⊥
   pub noAttribute : OneText p t v → ⊥
-  pub noEntity : Twin p t v → ⊥
+  pub noEntity : Repeats p t v → ⊥
 
 abbrev pub Fits : List ℕ → List ℕ → ℕ → Class → Type 0
 Fits p t v isText = Text t v

@@ -4,3 +4,4 @@ mod Searching
 pub mod Calls
 pub mod Unique
 pub mod Papers
+pub mod Types

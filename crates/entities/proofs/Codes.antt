@@ -1,12 +1,12 @@
 -- Laws of codes. Assumes nothing.
---   code-start        before any child is passed the code is the flag of twins
+--   code-start        before any child is passed the code is the flag of the type
 --   code-child, code-other   how a node that is passed changes the code of its parent, and no other
 --   code-few          a code is at most 5
 --   entity-code       a node's tag and code tell whether it is an entity
--- Letters: p parents, t tags; v node, c child, i nodes passed; b has a twin, k number of children.
+-- Letters: p parents, t tags; v node, c child, i nodes passed; b flag of its type, k number of children.
 use Prim.Native.Nat.{ℕ, zero, suc, _+_, _*_, _≤_, _<_}
 use mathlib.Core.Path.{_≡_, refl, ap, ap₂, _∙_}
-use mathlib.Core.Logic.{_⊎_, ⊎-elim}
+use mathlib.Core.Logic.{⊎-elim}
 use mathlib.Core.List.{List}
 use mathlib.Core.Bool.{Bool, true, false, not, cond, _&&_, _||_, or-false, false≢true}
 use native.Mathlib.Nat.{add-zero}
@@ -21,11 +21,16 @@ use Rattle.seq.proofs.Laws.Sums.{sum-suc, sum-at-le}
 use Rattle.tree.specs.Tree.{child}
 use Rattle.tree.specs.Rules.{text}
 use Rattle.tree.proofs.Laws.Children.{child-root}
-use Rattle.answers.specs.Classes.{isText, isAttribute, isEntity, isDummy, isEntityClass, children, oneText, twin, classOf, entity}
-use Rattle.entities.specs.Inner.{childrenTo, textTo, kidCode, codeTo, grown, entityBy, twinsOf, codes}
+use Rattle.answers.specs.Classes.{isText, isAttribute, isEntity, isDummy, isEntityClass, children, oneText, repeats, classOf, entity}
+use Rattle.types.specs.Repeated.{repeatFlag}
+use Rattle.entities.specs.Inner.{childrenTo, textTo, kidCode, codeTo, grown, entityBy, closestBy, codes}
+
+-- What the flag says.
+abbrev flagged : List ℕ → List ℕ → ℕ → Bool
+flagged p t v = not (text t v) && repeats p t v
 
 -- ---- by cases of the number of children so far
--- The code of a node with a twin or not, of which k children and maybe a text child are passed.
+-- The code of a node, flagged or not, of which k children and maybe a text child are passed.
 abbrev made : Bool → ℕ → Bool → ℕ
 made b k s = cond b 1 0 + cond (eqb k 0) 0 (cond (eqb k 1 && s) 1 2) * 2
 
@@ -87,27 +92,27 @@ module _ (p t : List ℕ) (v c : ℕ) where
   pub code-other : child p v c ≡ false → codeTo p t (suc c) v ≡ codeTo p t c v
   unfolding codeTo kidCode
   code-other e =
-      ap₂ (λ (k : ℕ) (s : Bool). cond (twin p t v) 1 0 + cond (eqb k 0) 0 (cond (eqb k 1 && s) 1 2) * 2)
+      ap₂ (λ (k : ℕ) (s : Bool). repeatFlag p t v + cond (eqb k 0) 0 (cond (eqb k 1 && s) 1 2) * 2)
       (children-suc ∙ ap (λ (b : Bool). childrenTo p c v + cond b 1 0) e ∙ add-zero _)
       (text-suc ∙ ap (λ (b : Bool). textTo p t c v || (b && text t c)) e ∙ or-false (textTo p t c v))
 
   pub code-child : child p v c ≡ true → codeTo p t (suc c) v ≡ grown (codeTo p t c v) (getD t c 0)
-  unfolding codeTo kidCode text
+  unfolding codeTo kidCode text repeatFlag
   code-child e =
-      ap₂ (λ (k : ℕ) (s : Bool). cond (twin p t v) 1 0 + cond (eqb k 0) 0 (cond (eqb k 1 && s) 1 2) * 2)
+      ap₂ (λ (k : ℕ) (s : Bool). repeatFlag p t v + cond (eqb k 0) 0 (cond (eqb k 1 && s) 1 2) * 2)
       (children-suc ∙ ap (λ (b : Bool). childrenTo p c v + cond b 1 0) e)
       (text-suc ∙ ap (λ (b : Bool). textTo p t c v || (b && text t c)) e)
-      ∙ by-count (twin p t v) (childrenTo p c v) (textTo p t c v) (getD t c 0) text-none
+      ∙ by-count (flagged p t v) (childrenTo p c v) (textTo p t c v) (getD t c 0) text-none
 
 module _ (p t : List ℕ) (v : ℕ) where
   -- The root is nobody's child, so before node 1 no child is passed.
-  pub code-start : codeTo p t 1 v ≡ twinsOf p t v
+  pub code-start : codeTo p t 1 v ≡ repeatFlag p t v
   unfolding codeTo kidCode childrenTo sumBelow
-  code-start = code-other p t v 0 (child-root p v) ∙ add-zero (twinsOf p t v)
+  code-start = code-other p t v 0 (child-root p v) ∙ add-zero (repeatFlag p t v)
 
   pub code-few : (i : ℕ) → codeTo p t i v ≤ 5
-  unfolding codeTo kidCode
-  code-few i = few (twin p t v) (eqb (childrenTo p i v) 0) (eqb (childrenTo p i v) 1 && textTo p t i v)
+  unfolding codeTo kidCode repeatFlag
+  code-few i = few (flagged p t v) (eqb (childrenTo p i v) 0) (eqb (childrenTo p i v) 1 && textTo p t i v)
     where
       few : (b a o : Bool) → cond b 1 0 + cond a 0 (cond o 1 2) * 2 ≤ 5
       few true true o = omega arith
@@ -119,20 +124,20 @@ module _ (p t : List ℕ) (v : ℕ) where
 
   -- The tag and the code tell whether the node is an entity.
   pub entity-code : entityBy (getD t v 0) (codes p t v) ≡ entity p t v
-  unfolding entityBy entity classOf text oneText children codeTo kidCode childrenTo textTo
+  unfolding entityBy entity classOf text oneText children codeTo kidCode childrenTo textTo repeatFlag
   entity-code =
-      by-tests (eqb (getD t v 0) 0) (twin p t v) (sumBelow (length p) (λ c. cond (child p v c) 1 0)) (someBelow (length p) (λ c. child p v c && eqb (getD t c 0) 0))
+      by-tests (eqb (getD t v 0) 0) (repeats p t v) (sumBelow (length p) (λ c. cond (child p v c) 1 0)) (someBelow (length p) (λ c. child p v c && eqb (getD t c 0) 0))
     where
-      by-code : (x b o : Bool) → _≡_ {A = Bool} (not x && (eqb (cond b 1 0 + cond o 1 2 * 2) 1 || eqb (cond b 1 0 + cond o 1 2 * 2) 5)) (isEntityClass (cond x isText (cond o isAttribute (cond b isEntity isDummy))))
-      by-code true b o = refl
-      by-code false true true = refl
-      by-code false true false = refl
-      by-code false false true = refl
-      by-code false false false = refl
+      by-code : (b o : Bool) → _≡_ {A = Bool} (eqb (cond b 1 0 + cond o 1 2 * 2) 1 || eqb (cond b 1 0 + cond o 1 2 * 2) 5) (isEntityClass (cond o isAttribute (cond b isEntity isDummy)))
+      by-code true true = refl
+      by-code true false = refl
+      by-code false true = refl
+      by-code false false = refl
 
-      by-tests : (x b : Bool) (k : ℕ) (s : Bool) → (not x && (eqb (made b k s) 1 || eqb (made b k s) 5)) ≡ isEntityClass (cond x isText (cond (eqb k 1 && s) isAttribute (cond b isEntity isDummy)))
-      by-tests x b (suc k) s = rw (ne-eqb (suc k) 0 (λ (q : suc k ≡ 0). omega arith)) (by-code x b (eqb (suc k) 1 && s))
-      by-tests true b zero s = refl
+      by-tests : (x b : Bool) (k : ℕ) (s : Bool) →
+          (not x && (eqb (made (not x && b) k s) 1 || eqb (made (not x && b) k s) 5)) ≡ isEntityClass (cond x isText (cond (eqb k 1 && s) isAttribute (cond b isEntity isDummy)))
+      by-tests true b k s = refl
+      by-tests false b (suc k) s = rw (ne-eqb (suc k) 0 (λ (q : suc k ≡ 0). omega arith)) (by-code b (eqb (suc k) 1 && s))
       by-tests false true zero s = refl
       by-tests false false zero s = refl
 
@@ -149,6 +154,14 @@ module _ (x k : ℕ) where
   pub entity-five : (x ≡ 0 → ⊥) → (k ≡ 1 → ⊥) → eqb k 5 ≡ entityBy x k
   unfolding entityBy
   entity-five ne nk = rw (ne-eqb x 0 ne, ne-eqb k 1 nk)
+
+  pub closest-entity : (v u : ℕ) → entityBy x k ≡ true → v ≡ closestBy x k v u
+  unfolding closestBy
+  closest-entity v u e = rw e
+
+  pub closest-other : (v u : ℕ) → entityBy x k ≡ false → u ≡ closestBy x k v u
+  unfolding closestBy
+  closest-other v u e = rw e
 
   pub grown-same : 4 ≤ k → k ≡ grown k x
   unfolding grown

@@ -1,54 +1,34 @@
 -- Laws of the row of closest entities: when rows stay, what stands over their front, and that no second outcome fits. Assumes nothing.
 -- Letters: p parents, t tags, w rows; v node; a, the row of closest entities as the code has it.
-use Prim.Native.Nat.{ℕ, zero, suc, _+_, _*_, _≤_, _<_}
+use Prim.Native.Nat.{ℕ, _*_, _≤_, _<_}
 use mathlib.Core.Path.{_≡_, refl, sym, ap, ap₂, _∙_}
 use mathlib.Core.List.{List, [], _++_, append-assoc}
-use mathlib.Core.Bool.{Bool, true, false, cond, _&&_, _||_}
+use mathlib.Core.Bool.{true, false}
 use mathlib.Core.Logic.{⊎-elim}
 use native.Mathlib.Omega.{arith}
-use borrow.Author.Tests.{lt-ltb, leb-true, lt-leb, ne-eqb}
-use lib.Dec.{eqb, ltb, leb}
+use borrow.Author.Tests.{leb-true, eqb-true}
+use lib.Dec.{eqb, leb}
 use lib.ListN.{length, getD, take, drop, replicate, length-append, length-replicate, List·getD-append, drop-of-length-le}
 use lib.Seq.{length-take-le, getD-take, drop-at, ext-getD}
 use Rattle.seq.specs.Below.{tabulate}
 use Rattle.seq.specs.Memory.{over}
-use Rattle.seq.proofs.Laws.Bools.{bool-cases, or-right, and-both, and-left, and-right, and-false-left, and-false-right}
-use Rattle.seq.proofs.Laws.Below.{some-none, every-of}
+use Rattle.seq.proofs.Laws.Bools.{bool-cases, and-left, and-right}
 use Rattle.seq.proofs.Laws.Memory.{length-over}
 use Rattle.seq.proofs.Laws.Gather.{length-tabulate, getD-tabulate}
-use Rattle.tree.specs.Tree.{parent}
-use Rattle.tree.specs.Plain.{Down}
-use Rattle.answers.specs.Classes.{sibling, twin, closest}
-use Rattle.twins.specs.Twins.{twinFlag, fitsTwins, flagRows, twinRows}
-use Rattle.twins.proofs.Laws.{twinFlag-is, length-flagRows, twins-fits, twins-fit}
-use Rattle.entities.specs.Inner.{Holds, TreePre, twinsOf}
-use Rattle.entities.specs.Closest.{parentsBefore, fitsClosest, closestRows}
-use Rattle.entities.proofs.Walking.{before-down}
+use Rattle.tree.specs.Rules.{treeBad}
+use Rattle.tree.specs.Plain.{Lawful}
+use Rattle.tree.proofs.Laws.Under.{parents-before}
+use Rattle.tree.proofs.Laws.Rules.{lawful-of}
+use Rattle.answers.specs.Classes.{closest}
+use Rattle.types.specs.Repeated.{repeatFlag, fitsTypes, flagRows, repeatRows}
+use Rattle.types.proofs.Laws.{length-flagRows, repeat-fit, repeat-unfit}
+use Rattle.entities.specs.Inner.{Holds, TreePre}
+use Rattle.entities.specs.Closest.{closestRows}
 
--- In a tree each parent stands before its child.
-pub before-of : (p : List ℕ) → Down p (length p) → parentsBefore p ≡ true
-unfolding parentsBefore
-before-of p d = every-of (length p) _ ahead
-  where
-    ahead : (v : ℕ) → v < length p → (eqb v 0 || ltb (parent p v) v) ≡ true
-    ahead zero l = refl
-    ahead (suc v) l = or-right (eqb (suc v) 0) _ (lt-ltb (parent p (suc v)) (suc v) (omega (arith, d v l)))
-
--- The root has no twin.
-twin-root : (p t : List ℕ) → twin p t 0 ≡ false
-unfolding twin sibling
-twin-root p t = some-none (length p) _ (λ c l. refl)
-
--- The flag of every node, where each parent stands before its child.
-flag-is : (p t : List ℕ) → Down p (length p) → (v : ℕ) → v < length p → twinFlag p t v ≡ twinsOf p t v
-unfolding twinFlag
-flag-is p t d zero l = rw (twin-root p t, and-false-right)
-flag-is p t d (suc v) l = twinFlag-is p t (suc v) (omega (arith, d v l))
-
-flags-at : (p t : List ℕ) (v : ℕ) → v < length p → getD (flagRows p t) v 0 ≡ twinFlag p t v
+flags-at : (p t : List ℕ) (v : ℕ) → v < length p → getD (flagRows p t) v 0 ≡ repeatFlag p t v
 unfolding flagRows
 flags-at p t v l =
-    List·getD-append (tabulate (length p) (twinFlag p t)) _ 0 v (omega (arith, length-tabulate (length p) (twinFlag p t))) ∙ getD-tabulate (length p) (twinFlag p t) v 0 l
+    List·getD-append (tabulate (length p) (repeatFlag p t)) _ 0 v (omega (arith, length-tabulate (length p) (repeatFlag p t))) ∙ getD-tabulate (length p) (repeatFlag p t) v 0 l
 
 -- A row of n entries and two of zeros, written over the front.
 over-rows : (n : ℕ) (x w : List ℕ) → length x ≡ n → over (x ++ replicate (n * 2) 0) w ≡ x ++ (replicate (n * 2) 0 ++ drop (n * 3) w)
@@ -62,100 +42,91 @@ over-rows n x w e = append-assoc x (replicate (n * 2) 0) _ ∙ ap (λ (k : ℕ).
 behind-flags : (p t w : List ℕ) → drop (length p) (over (flagRows p t) w) ≡ replicate (length p * 2) 0 ++ drop (length p * 3) w
 unfolding flagRows
 behind-flags p t w =
-    ap (drop (length p)) (over-rows (length p) (tabulate (length p) (twinFlag p t)) w (length-tabulate (length p) (twinFlag p t)))
-    ∙ drop-at (tabulate (length p) (twinFlag p t)) _ (length p) (length-tabulate (length p) (twinFlag p t))
+    ap (drop (length p)) (over-rows (length p) (tabulate (length p) (repeatFlag p t)) w (length-tabulate (length p) (repeatFlag p t)))
+    ∙ drop-at (tabulate (length p) (repeatFlag p t)) _ (length p) (length-tabulate (length p) (repeatFlag p t))
 
 module _ (p t w : List ℕ) where
-  kept : fitsClosest p t (length w) ≡ false → w ≡ closestRows p t w
+  -- Where the types do not fit, nothing is written.
+  pub closest-unfit : fitsTypes p t (length w) ≡ false → repeatRows p t w ≡ closestRows p t w
   unfolding closestRows
-  kept e = rw e
+  closest-unfit e = rw e (repeat-unfit p t w e)
 
-  pub closest-many : 65536 < length p → w ≡ closestRows p t w
-  unfolding fitsClosest fitsTwins
-  closest-many h = kept (and-false-left _ _ (and-false-left _ _ (lt-leb (length p) 65536 h)))
+  -- Where they fit, the closest entities and two rows of zeros stand over their front.
+  pub closest-fit : fitsTypes p t (length w) ≡ true → closestRows p t w ≡ over (tabulate (length p) (closest p t) ++ replicate (length p * 2) 0) w
+  unfolding closestRows
+  closest-fit e = rw e
 
-  pub closest-untagged : (length t ≡ length p → ⊥) → w ≡ closestRows p t w
-  unfolding fitsClosest fitsTwins
-  closest-untagged h = kept (and-false-left _ _ (and-false-right (leb (length p) 65536) _ (and-false-left _ _ (ne-eqb (length t) (length p) h))))
+  -- w₁ is what `flag_repeated` leaves.
+  module _ (fit : fitsTypes p t (length w) ≡ true) (w₁ : List ℕ) (e₁ : w₁ ≡ repeatRows p t w) where
+    few : length p ≤ 65536
+    unfolding fitsTypes
+    few = leb-true (length p) 65536 (and-left _ _ fit)
 
-  pub closest-short : length w < length p * 3 → w ≡ closestRows p t w
-  unfolding fitsClosest fitsTwins
-  closest-short h =
-      kept (and-false-left _ _ (and-false-right (leb (length p) 65536) _ (and-false-right (eqb (length t) (length p)) _ (lt-leb (length p * 3) (length w) h))))
+    tagged : length t ≡ length p
+    unfolding fitsTypes
+    tagged = eqb-true (length t) (length p) (and-left _ _ (and-right (leb (length p) 65536) _ fit))
 
-  pub closest-unordered : parentsBefore p ≡ false → w ≡ closestRows p t w
-  unfolding fitsClosest
-  closest-unordered e = kept (and-false-right (fitsTwins p t (length w)) _ e)
+    room : length p * 3 ≤ length w
+    unfolding fitsTypes
+    room = leb-true (length p * 3) (length w) (and-left _ _ (and-right (eqb (length t) (length p)) _ (and-right (leb (length p) 65536) _ fit)))
 
-  -- With no node there is nothing to write.
-  pub closest-empty : length p ≡ 0 → w ≡ closestRows p t w
-  unfolding closestRows over
-  closest-empty e = sym (ap (λ (x : List ℕ). cond (fitsClosest p t (length w)) (x ++ drop (length x) w) w) none ∙ same (fitsClosest p t (length w)))
-    where
-      none : tabulate (length p) (closest p t) ++ replicate (length p * 2) 0 ≡ []
-      none =
-          drop-of-length-le (tabulate (length p) (closest p t) ++ replicate (length p * 2) 0) {i = 0}
-          (omega (arith, length-append (tabulate (length p) (closest p t)) (replicate (length p * 2) 0), length-tabulate (length p) (closest p t), length-replicate {A = ℕ} (length p * 2) 0))
+    tree : Lawful p t
+    unfolding fitsTypes
+    tree = lawful-of p t (omega (arith, eqb-true (treeBad p t) (length p) (and-right (leb (length p * 3) (length w)) _ (and-right (eqb (length t) (length p)) _ (and-right (leb (length p) 65536) _ fit)))))
 
-      same : (b : Bool) → cond b w w ≡ w
-      same true = refl
-      same false = refl
+    flagged : w₁ ≡ over (flagRows p t) w
+    flagged = e₁ ∙ repeat-fit p t w fit
 
-  module _ (few : length p ≤ 65536) (tagged : length t ≡ length p) (room : length p * 3 ≤ length w) where
-    -- Where they fit, the closest entities and two rows of zeros stand over their front.
-    pub closest-fit : parentsBefore p ≡ true → closestRows p t w ≡ over (tabulate (length p) (closest p t) ++ replicate (length p * 2) 0) w
-    unfolding closestRows fitsClosest
-    closest-fit ahead = rw (and-both _ _ (twins-fits p t w few tagged room) ahead)
+    pub closest-length : length w₁ ≡ length w
+    closest-length = ap length flagged ∙ length-over (flagRows p t) w (omega (arith, length-flagRows p t, room))
 
-    -- What `flag_twins` leaves.
-    flagged : twinRows p t w ≡ over (flagRows p t) w
-    flagged = twins-fit p t w few tagged room
+    pub closest-nodes : length p ≤ length w₁
+    closest-nodes = omega (arith, closest-length, room)
 
-    long : length (twinRows p t w) ≡ length w
-    long = ap length flagged ∙ length-over (flagRows p t) w (omega (arith, length-flagRows p t))
+    pub closest-pre : (length p ≡ 0 → ⊥) → TreePre p t (repeatFlag p t) (take (length p) w₁)
+    unfolding over
+    closest-pre ne = record {
+      some = omega arith;
+      few = few;
+      tagged = tagged;
+      down = parents-before p (length p) (tree .preorder);
+      row = record {
+        long = length-take-le (length p) w₁ closest-nodes;
+        holds = λ v l.
+            getD-take (length p) w₁ v 0 l ∙ ap (λ (x : List ℕ). getD x v 0) flagged ∙ List·getD-append (flagRows p t) _ 0 v (omega (arith, length-flagRows p t))
+            ∙ flags-at p t v l;
+      };
+    }
 
-    module _ (w₁ : List ℕ) (e₁ : w₁ ≡ twinRows p t w) where
-      pub closest-nodes : length p ≤ length w₁
-      closest-nodes = omega (arith, ap length e₁, long)
+    pub closest-made : (a : List ℕ) → Holds (length p) (closest p t) a → a ++ drop (length p) w₁ ≡ closestRows p t w
+    closest-made a h =
+        ap₂ (λ (x y : List ℕ). x ++ y) row (ap (drop (length p)) flagged ∙ behind-flags p t w)
+        ∙ sym (closest-fit fit ∙ over-rows (length p) (tabulate (length p) (closest p t)) w (length-tabulate (length p) (closest p t)))
+      where
+        row : a ≡ tabulate (length p) (closest p t)
+        row =
+            ext-getD 0 a (tabulate (length p) (closest p t)) (h .long ∙ sym (length-tabulate (length p) (closest p t)))
+            (λ v l. h .holds v (omega (arith, h .long)) ∙ sym (getD-tabulate (length p) (closest p t) v 0 (omega (arith, h .long))))
 
-      pub closest-length : length w₁ ≡ length w
-      closest-length = ap length e₁ ∙ long
-
-      module _ (ahead : parentsBefore p ≡ true) where
-        pub closest-pre : (length p ≡ 0 → ⊥) → TreePre p t (twinsOf p t) (take (length p) w₁)
-        unfolding over
-        closest-pre ne = record {
-          some = omega arith;
-          few = few;
-          tagged = tagged;
-          down = before-down p ahead;
-          row = record {
-            long = length-take-le (length p) w₁ closest-nodes;
-            holds = λ v l.
-                getD-take (length p) w₁ v 0 l ∙ ap (λ (x : List ℕ). getD x v 0) (e₁ ∙ flagged)
-                ∙ List·getD-append (flagRows p t) _ 0 v (omega (arith, length-flagRows p t)) ∙ flags-at p t v l ∙ flag-is p t (before-down p ahead) v l;
-          };
-        }
-
-        pub closest-made : (a : List ℕ) → Holds (length p) (closest p t) a → a ++ drop (length p) w₁ ≡ closestRows p t w
-        closest-made a h =
-            ap₂ (λ (x y : List ℕ). x ++ y) (row a h) (ap (drop (length p)) (e₁ ∙ flagged) ∙ behind-flags p t w)
-            ∙ sym (closest-fit ahead ∙ over-rows (length p) (tabulate (length p) (closest p t)) w (length-tabulate (length p) (closest p t)))
-          where
-            row : (a : List ℕ) → Holds (length p) (closest p t) a → a ≡ tabulate (length p) (closest p t)
-            row a h =
-                ext-getD 0 a (tabulate (length p) (closest p t)) (h .long ∙ sym (length-tabulate (length p) (closest p t)))
-                (λ v l. h .holds v (omega (arith, h .long)) ∙ sym (getD-tabulate (length p) (closest p t) v 0 (omega (arith, h .long))))
+    -- With no node there is nothing to write.
+    pub closest-empty : length p ≡ 0 → w₁ ≡ closestRows p t w
+    closest-empty z =
+        ap₂ (λ (x : List ℕ) (k : ℕ). x ++ drop k w₁) (sym none) (sym z)
+        ∙ closest-made (tabulate (length p) (closest p t))
+        (record { long = length-tabulate (length p) (closest p t); holds = λ v l. getD-tabulate (length p) (closest p t) v 0 l })
+      where
+        none : tabulate (length p) (closest p t) ≡ []
+        none = drop-of-length-le (tabulate (length p) (closest p t)) {i = 0} (omega (arith, length-tabulate (length p) (closest p t)))
 
 -- Rows keep their length.
 pub length-closestRows : (p t w : List ℕ) → length (closestRows p t w) ≡ length w
-unfolding closestRows fitsClosest fitsTwins
-length-closestRows p t w =
-    ⊎-elim (λ q. rw q (length-over _ w (omega (arith, rows, leb-true (length p * 3) (length w) (and-right (eqb (length t) (length p)) _ (and-right (leb (length p) 65536) _ (and-left _ _ q)))))))
-    (λ q. rw q) (bool-cases ((leb (length p) 65536 && (eqb (length t) (length p) && leb (length p * 3) (length w))) && parentsBefore p))
+length-closestRows p t w = ⊎-elim fits (λ q. ap length (sym (closest-unfit p t w q) ∙ repeat-unfit p t w q)) (bool-cases (fitsTypes p t (length w)))
   where
     rows : length (tabulate (length p) (closest p t) ++ replicate (length p * 2) 0) ≡ length p * 3
     rows = omega (arith, length-append (tabulate (length p) (closest p t)) (replicate (length p * 2) 0), length-tabulate (length p) (closest p t), length-replicate {A = ℕ} (length p * 2) 0)
+
+    fits : fitsTypes p t (length w) ≡ true → length (closestRows p t w) ≡ length w
+    fits q = ap length (closest-fit p t w q) ∙ length-over _ w (omega (arith, rows, room p t w q (repeatRows p t w) refl))
 
 -- ---- no second outcome fits
 pub closest-unique : (p t w w′ w″ : List ℕ) → w′ ≡ closestRows p t w → w″ ≡ closestRows p t w → w′ ≡ w″

@@ -1,31 +1,28 @@
 -- The walks over the nodes: what the loops know, and how a turn keeps it. Assumes nothing.
 --   Growing   the loop that counts children
 --   Passing   the loop that passes the closest entity down
---   Ahead     the loop that looks for a parent that does not stand before its child
 -- Letters: p parents, t tags, n nodes, w a row; v u nodes, c child.
 use Prim.Native.Nat.{ℕ, zero, suc, _+_, _≤_, _<_}
-use mathlib.Core.Path.{_≡_, sym, ap, _∙_, subst}
+use mathlib.Core.Path.{_≡_, sym, ap, ap₂, _∙_}
 use mathlib.Core.Logic.{⊎-elim}
 use mathlib.Core.List.{List}
-use mathlib.Core.Bool.{Bool, true, false, cond, _||_}
+use mathlib.Core.Bool.{Bool, cond}
 use native.Mathlib.Nat.{le-antisymm}
 use native.Mathlib.Numerals.{add-one}
 use native.Mathlib.Omega.{arith}
-use lib.Dec.{eqb, ltb}
-use borrow.Author.Tests.{eq-eqb, ne-eqb, eqb-true, eqb-false, lt-ltb, le-ltb, ltb-true}
+use lib.Dec.{eqb}
+use borrow.Author.Tests.{eq-eqb, ne-eqb, eqb-true, eqb-false}
 use lib.ListN.{length, getD, set, length-set}
 use lib.Seq.{getD-set-same, getD-set-other}
-use Rattle.seq.proofs.Laws.Bools.{bool-cases, or-left, or-right, or-cases}
-use Rattle.seq.proofs.Laws.Numbers.{less-or}
-use Rattle.seq.proofs.Laws.Below.{every-at, every-of, every-fails}
+use Rattle.seq.proofs.Laws.Bools.{bool-cases}
 use Rattle.seq.proofs.Laws.Loops.{filled-more}
 use Rattle.tree.specs.Tree.{parent}
 use Rattle.tree.specs.Plain.{Down}
 use Rattle.tree.proofs.Laws.Children.{child-of, parent-less}
 use Rattle.answers.specs.Classes.{entity, closest}
 use Rattle.answers.proofs.Laws.Not.{closest-first, closest-suc}
-use Rattle.entities.specs.Inner.{codeTo, grown, entityBy, Holds, TreePre, twinsOf, codes}
-use Rattle.entities.specs.Closest.{parentsBefore}
+use Rattle.types.specs.Repeated.{repeatFlag}
+use Rattle.entities.specs.Inner.{codeTo, grown, entityBy, closestBy, Holds, TreePre, codes}
 use Rattle.entities.proofs.Codes.{code-start, code-child, code-other, code-few, entity-code}
 
 -- ---- counting children
@@ -35,14 +32,14 @@ pub record Growing (p t w : List ℕ) (c : ℕ) : Type 0 where
   -- the children below c are passed
   pub row : Holds (length p) (codeTo p t c) w
 
-pub growing-start : (p t w : List ℕ) → TreePre p t (twinsOf p t) w → Growing p t w 1
+pub growing-start : (p t w : List ℕ) → TreePre p t (repeatFlag p t) w → Growing p t w 1
 growing-start p t w pre = record {
   some = omega arith;
   within = pre .some;
   row = record { long = pre .row .long; holds = λ v l. pre .row .holds v l ∙ sym (code-start p t v) };
 }
 
-module _ (p t w₀ w : List ℕ) (c : ℕ) (pre : TreePre p t (twinsOf p t) w₀) (s : Growing p t w c) (h : c < length p) where
+module _ (p t w₀ w : List ℕ) (c : ℕ) (pre : TreePre p t (repeatFlag p t) w₀) (s : Growing p t w c) (h : c < length p) where
   pub grow-tag : c < length t
   grow-tag = omega (arith, pre .tagged)
 
@@ -128,14 +125,7 @@ module _ (p t w₀ : List ℕ) (pre : TreePre p t (codes p t) w₀) where
       rest = λ u l k. getD-set-other w v u x 0 (λ (q : u ≡ v). omega arith) ∙ s .rest u (omega arith) k;
     }
 
-    -- b says whether v is an entity, as the code has it.
-    is-entity : (b : Bool) → b ≡ entityBy (getD t v 0) (getD w v 0) → b ≡ entity p t v
-    is-entity b e = e ∙ ap (entityBy (getD t v 0)) (s .rest v (omega arith) h) ∙ entity-code p t v
-
-    pub passing-entity : (b : Bool) → b ≡ entityBy (getD t v 0) (getD w v 0) → b ≡ true → Passing p t (set w v v) (v + 1)
-    passing-entity b e q =
-        stepped v (sym (closest-at p (pre .down) t v (s .some) h ∙ ap (λ (z : Bool). cond z v (closest p t (parent p v))) (sym (is-entity b e) ∙ q)))
-
+    -- u is the parent of v, as the code has it.
     module _ (u : ℕ) (eu : u ≡ parent p v) where
       pass-less : u < v
       pass-less = omega (arith, parent-less p (length p) (pre .down) v (s .some) h)
@@ -143,51 +133,12 @@ module _ (p t w₀ : List ℕ) (pre : TreePre p t (codes p t) w₀) where
       pub pass-up : u < length w
       pass-up = omega (arith, pass-less, s .long)
 
-      pub passing-other : (b : Bool) → b ≡ entityBy (getD t v 0) (getD w v 0) → b ≡ false → Passing p t (set w v (getD w u 0)) (v + 1)
-      passing-other b e q =
-          stepped (getD w u 0)
-          (s .done u pass-less ∙ ap (closest p t) eu
-          ∙ sym (closest-at p (pre .down) t v (s .some) h ∙ ap (λ (z : Bool). cond z v (closest p t (parent p v))) (sym (is-entity b e) ∙ q)))
+      pub passing-step : (x : ℕ) → x ≡ closestBy (getD t v 0) (getD w v 0) v (getD w u 0) → Passing p t (set w v x) (v + 1)
+      unfolding closestBy
+      passing-step x e =
+          stepped x
+          (e ∙ ap₂ (λ (b : Bool) (z : ℕ). cond b v z) (ap (entityBy (getD t v 0)) (s .rest v (omega arith) h) ∙ entity-code p t v) (s .done u pass-less ∙ ap (closest p t) eu)
+          ∙ sym (closest-at p (pre .down) t v (s .some) h))
 
   pub passing-end : (w : List ℕ) (v : ℕ) → Passing p t w v → length p ≤ v → Holds (length p) (closest p t) w
   passing-end w v s h = record { long = s .long; holds = λ u l. s .done u (omega arith) }
-
--- ---- each parent before its child
--- The test of one node.
-abbrev pub ahead : List ℕ → ℕ → Bool
-ahead p v = eqb v 0 || ltb (parent p v) v
-
-pub record Ahead (p : List ℕ) (v : ℕ) : Type 0 where
-  pub some : 1 ≤ v
-  pub passed : (u : ℕ) → u < v → ahead p u ≡ true
-
-pub ahead-start : (p : List ℕ) → Ahead p 1
-ahead-start p = record { some = omega arith; passed = λ u l. or-left (eqb u 0) _ (eq-eqb u 0 (none u l)) }
-  where
-    none : (u : ℕ) → u < 1 → u ≡ 0
-    none u l = omega arith
-
-module _ (p : List ℕ) (v : ℕ) (s : Ahead p v) (u : ℕ) (e : u ≡ parent p v) where
-  pub ahead-fails : v < length p → v ≤ u → false ≡ parentsBefore p
-  unfolding parentsBefore
-  ahead-fails l h =
-      sym (every-fails (length p) (ahead p) v l (rw (ne-eqb v 0 (λ (q : v ≡ 0). omega (arith, s .some)), le-ltb (parent p v) v (omega arith))))
-
-  pub ahead-step : u < v → Ahead p (v + 1)
-  ahead-step h = record {
-    some = omega arith;
-    passed = λ k l. ⊎-elim (λ q. s .passed k q) (λ q. subst (λ (z : ℕ). ahead p z ≡ true) (le-antisymm q (omega arith)) (or-right (eqb v 0) _ (lt-ltb (parent p v) v (omega arith)))) (less-or k v);
-  }
-
-pub ahead-end : (p : List ℕ) (v : ℕ) → Ahead p v → length p ≤ v → true ≡ parentsBefore p
-unfolding parentsBefore
-ahead-end p v s h = sym (every-of (length p) (ahead p) (λ u l. s .passed u (omega arith)))
-
-pub before-down : (p : List ℕ) → parentsBefore p ≡ true → Down p (length p)
-unfolding parentsBefore
-before-down p e i l =
-    ⊎-elim (λ q. absurd (no-zero (eqb-true (suc i) 0 q))) (λ q. omega (arith, ltb-true (parent p (suc i)) (suc i) q))
-    (or-cases (eqb (suc i) 0) (ltb (parent p (suc i)) (suc i)) (every-at (length p) (ahead p) e (suc i) l))
-  where
-    no-zero : suc i ≡ 0 → ⊥
-    no-zero q = omega arith

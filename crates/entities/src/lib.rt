@@ -1,13 +1,14 @@
-// Entities, and the closest entity of each node (01, "Which nodes are listed": Node classes; source document 002).
+// Entities, and the closest entity of each node (01, "Which nodes are listed": Node classes, with 02's Q-1; source document 002).
 // One entry point, `find_closest`. Slices of any length and any content may be lent. Which nodes are entities is asked in `is_entity` alone.
 ghost use mathlib.Core.Path.{_≡_};
 ghost use Prim.Native.Nat.{_≤_};
 ghost use lib.ListN.{length};
 ghost use Rattle.answers.specs.Classes.{closest};
-ghost use Rattle.entities.specs.Inner.{grown, entityBy, Holds, TreePre, twinsOf, codes};
-ghost use Rattle.entities.specs.Closest.{parentsBefore, closestRows};
+ghost use Rattle.entities.specs.Inner.{grown, entityBy, closestBy, Holds, TreePre, codes};
+ghost use Rattle.types.specs.Repeated.{repeatFlag};
+ghost use Rattle.entities.specs.Closest.{closestRows};
 
-// A node with this tag and this code is an entity: it is no text, has a twin, and has not one text child alone.
+// A node with this tag and this code is an entity: it is no text, its type repeats, and it has not one text child alone.
 fn is_entity(tag: u32, code: u32) -> bool
     ensures { λ r. ⌜ r ≡ entityBy tag code ⌝ }
 {
@@ -37,9 +38,9 @@ fn grow(code: u32, tag: u32) -> u32
     code + 4
 }
 
-// From the flags of twins: the code of each node.
+// From the flags of the types that repeat: the code of each node.
 fn count_children(parents: &[u32], tags: &[u32], row: &mut [u32])
-    requires { ⌜ TreePre (now parents) (now tags) (twinsOf (now parents) (now tags)) (now row) ⌝ }
+    requires { ⌜ TreePre (now parents) (now tags) (repeatFlag (now parents) (now tags)) (now row) ⌝ }
     ensures { λ r. ⌜ Holds (length (now (parents .entry))) (codes (now (parents .entry)) (now (tags .entry))) (now (row .exit)) ⌝ }
 {
     let mut c: usize = 1;
@@ -50,6 +51,16 @@ fn count_children(parents: &[u32], tags: &[u32], row: &mut [u32])
     }
 }
 
+// What the closest entity of node v is: v itself where its tag and code make it an entity, else the one above it.
+fn closest_of(tag: u32, code: u32, v: u32, above: u32) -> u32
+    ensures { λ r. ⌜ r ≡ closestBy tag code v above ⌝ }
+{
+    if is_entity(tag, code) {
+        return v;
+    }
+    above
+}
+
 // From the codes: the closest entity of each node, which is the node itself where it is an entity, and else its parent's.
 fn pass_down(parents: &[u32], tags: &[u32], row: &mut [u32])
     requires { ⌜ TreePre (now parents) (now tags) (codes (now parents) (now tags)) (now row) ⌝ }
@@ -58,61 +69,32 @@ fn pass_down(parents: &[u32], tags: &[u32], row: &mut [u32])
     row[0] = 0;
     let mut v: usize = 1;
     while v < parents.len() {
-        if is_entity(tags[v], row[v]) {
-            row[v] = v as u32;
-        } else {
-            let up = seq::widen(parents[v]);
-            row[v] = row[up];
-        }
+        let up = seq::widen(parents[v]);
+        row[v] = closest_of(tags[v], row[v], v as u32, row[up]);
         v += 1;
     }
 }
 
-// From the flags of twins: the closest entity of each node.
+// From the flags of the types that repeat: the closest entity of each node.
 fn fill(parents: &[u32], tags: &[u32], row: &mut [u32])
-    requires { ⌜ TreePre (now parents) (now tags) (twinsOf (now parents) (now tags)) (now row) ⌝ }
+    requires { ⌜ TreePre (now parents) (now tags) (repeatFlag (now parents) (now tags)) (now row) ⌝ }
     ensures { λ r. ⌜ Holds (length (now (parents .entry))) (closest (now (parents .entry)) (now (tags .entry))) (now (row .exit)) ⌝ }
 {
     count_children(parents, tags, &mut *row);
     pass_down(parents, tags, row);
 }
 
-// Whether each parent stands before its child.
-fn parents_before(parents: &[u32]) -> bool
-    ensures { λ r. ⌜ r ≡ parentsBefore (now (parents .entry)) ⌝ }
-{
-    let mut v: usize = 1;
-    while v < parents.len() {
-        if v <= seq::widen(parents[v]) {
-            return false;
-        }
-        v += 1;
-    }
-    true
-}
-
 // For n = parents.len() nodes: the first n entries of rows become the closest entity of each node, the root where there is none; the next 2n entries
-// become 0, and the rest stays. Rows stay as lent where n is above 65,536, tags are not n long, rows are shorter than 3n or a parent does not stand
-// before its child.
+// become 0, and the rest stays. Rows stay as lent where n is above 65,536, tags are not n long, rows are shorter than 3n or the tree breaks a rule of 01.
 pub fn find_closest(parents: &[u32], tags: &[u32], rows: &mut [u32])
     ensures { λ r. ⌜ now (rows .exit) ≡ closestRows (now (parents .entry)) (now (tags .entry)) (now (rows .entry)) ⌝ }
 {
+    if !types::flag_repeated(parents, tags, &mut *rows) {
+        return;
+    }
     let n = parents.len();
-    if 65536 < n {
-        return;
-    }
-    if tags.len() != n {
-        return;
-    }
-    if rows.len() < n * 3 {
-        return;
-    }
     if n == 0 {
         return;
     }
-    if !parents_before(parents) {
-        return;
-    }
-    twins::flag_twins(parents, tags, &mut *rows);
     fill(parents, tags, &mut rows[..n]);
 }

@@ -19,7 +19,7 @@ use Rattle.index.specs.Index.{start, wordList, countUnder, trueCount}
 use Rattle.index.specs.Rules.{rises, listOk, lastEndOk, endOk, wordOk, listsBad, countOk, countsBad}
 use Rattle.index.specs.Replies.{nodesOk, wordsOk, lengthsOk, sizeOk, refusing, checked}
 use Rattle.answers.specs.Answers.{full, slca, own, ownCount, elca}
-use Rattle.answers.specs.Classes.{children, oneText, sibling, twin, classOf, entity, closest}
+use Rattle.answers.specs.Classes.{children, oneText, sibling, twin, typeOf, sameType, repeats, classOf, entity, closest}
 use Rattle.answers.specs.Not.{negator, valid, validSlca}
 use Rattle.answers.specs.Searches.{isElca, isSlca, isNegator, isValid, outOf, ownOf, answers, roomed, outFits, ownFits, elcaReply, slcaReply, validReply}
 use Rattle.text.specs.Text.{bytes, ended, lineLength, linesIn, lines, joined, fields, digit, numeral, valueFrom, digitsIn, decimal}
@@ -53,6 +53,8 @@ table =
     ∷ gives "parent,tag,+,#,-,#\r\n0,1,0,3,0,1\r\n0,2,0,2,0,1\r\n1,3,0,1,0,0\r\n2,4,0,1,0,0\r\n3,0,1,1,0,0\r\n2,5,0,0,0,0\r\n5,0,0,0,0,0\r\n1,3,0,1,0,1\r\n7,4,0,1,0,0\r\n8,0,1,1,0,0\r\n7,6,0,0,0,1\r\n10,0,0,0,1,1\r\n0,2,0,0,0,0\r\n12,3,0,0,0,0\r\n13,5,0,0,0,0\r\n14,0,0,0,0,0\r\n0,7,0,1,0,0\r\n16,0,1,1,0,0\r\n" "elca,0,0,4\r\nelca,0,0,9\r\nelca,0,0,17\r\nslca,0,0,4\r\nslca,0,0,9\r\nslca,0,0,17\r\nvalid,0,0,4\r\nvalid,0,0,17\r\n"
     -- and its cases 1 and 2 with NOT X: what ELCA lists is not what SLCA lists
     ∷ gives "parent,tag,+,#,+,#,-,#\r\n0,1,0,3,0,2,0,1\r\n0,2,0,2,0,1,0,1\r\n1,3,0,1,0,1,0,0\r\n2,4,0,1,0,0,0,0\r\n3,0,1,1,0,0,0,0\r\n2,5,0,0,0,1,0,0\r\n5,0,0,0,1,1,0,0\r\n1,3,0,1,0,0,0,1\r\n7,4,0,1,0,0,0,0\r\n8,0,1,1,0,0,0,0\r\n7,6,0,0,0,0,0,1\r\n10,0,0,0,0,0,1,1\r\n0,2,0,0,0,1,0,0\r\n12,3,0,0,0,1,0,0\r\n13,5,0,0,0,1,0,0\r\n14,0,0,0,1,1,0,0\r\n0,7,0,1,0,0,0,0\r\n16,0,1,1,0,0,0,0\r\n" "elca,0,0,0\r\nelca,0,0,2\r\nslca,0,0,2\r\nvalid,0,0,2\r\n"
+    -- and its case 9, T and NOT Z: the one leg of the train at 12 is shut out, and not the train
+    ∷ gives "parent,tag,+,#,-,#\r\n0,1,0,2,0,2\r\n0,2,1,1,0,1\r\n1,3,0,0,0,1\r\n2,4,0,0,0,0\r\n3,0,0,0,0,0\r\n2,5,0,0,0,1\r\n5,0,0,0,1,1\r\n1,3,0,0,0,0\r\n7,4,0,0,0,0\r\n8,0,0,0,0,0\r\n7,6,0,0,0,0\r\n10,0,0,0,0,0\r\n0,2,1,1,0,1\r\n12,3,0,0,0,1\r\n13,5,0,0,0,1\r\n14,0,0,0,1,1\r\n0,7,0,0,0,0\r\n16,0,0,0,0,0\r\n" "elca,0,0,1\r\nelca,0,0,12\r\nslca,0,0,1\r\nslca,0,0,12\r\nvalid,0,0,1\r\nvalid,0,0,12\r\n"
     -- a header alone, with its end and without
     ∷ gives "parent,tag,+,#\r\n" "elca,1,0,\r\nslca,1,0,\r\nvalid,1,0,\r\n"
     ∷ gives "parent,tag,+,#" "elca,1,0,\r\nslca,1,0,\r\nvalid,1,0,\r\n"
@@ -119,7 +121,7 @@ pub holds : Case → Bool
 holds c = sameList (tableOutput (c .input)) (headText ++ c .output)
 
 pub cases : everyOf holds table ≡ true
-unfolding everyBelow someBelow firstFail lastPass sumBelow tabulate gather listed everyOf someOf tally firstOf sameList climb line level under properly child text parentOk levelOk hangsOk tagOk nodeOk treeBad start wordList countUnder trueCount rises listOk lastEndOk endOk wordOk listsBad countOk countsBad nodesOk wordsOk lengthsOk sizeOk refusing checked full slca own ownCount elca children oneText sibling twin classOf entity closest negator valid validSlca isElca isSlca isNegator isValid outOf ownOf answers roomed outFits ownFits elcaReply slcaReply validReply bytes ended lineLength linesIn lines joined fields digit numeral valueFrom digitsIn decimal times headerText headerOk occurrence fieldOk rowOk lineOk broken rowOf cellsOf tableOf listsOf indexOf replyText lineText nodeLines answerText listedBy elcaText slcaText validText answersText headText inputText linesOutput tableOutput alike table holds
+unfolding everyBelow someBelow firstFail lastPass sumBelow tabulate gather listed everyOf someOf tally firstOf sameList climb line level under properly child text parentOk levelOk hangsOk tagOk nodeOk treeBad start wordList countUnder trueCount rises listOk lastEndOk endOk wordOk listsBad countOk countsBad nodesOk wordsOk lengthsOk sizeOk refusing checked full slca own ownCount elca children oneText sibling twin typeOf sameType repeats classOf entity closest negator valid validSlca isElca isSlca isNegator isValid outOf ownOf answers roomed outFits ownFits elcaReply slcaReply validReply bytes ended lineLength linesIn lines joined fields digit numeral valueFrom digitsIn decimal times headerText headerOk occurrence fieldOk rowOk lineOk broken rowOf cellsOf tableOf listsOf indexOf replyText lineText nodeLines answerText listedBy elcaText slcaText validText answersText headText inputText linesOutput tableOutput alike table holds
 cases = refl
 
 -- Each case by its place in the table.

@@ -25,6 +25,7 @@ use Rattle.tree.specs.Tree.{under, child}
 use Rattle.tree.specs.Rules.{text}
 use Rattle.tree.specs.Plain.{Down, Lawful}
 use Rattle.tree.proofs.Laws.Children.{child-root}
+use Rattle.tree.proofs.Laws.Rules.{lawful-accepted}
 use Rattle.tree.proofs.Laws.Under.{parents-before, under-le}
 use Rattle.tree.proofs.Laws.Ways.{child-towards, child-parent}
 use Rattle.index.specs.Index.{wordList}
@@ -33,7 +34,8 @@ use Rattle.answers.specs.Classes.{closest}
 use Rattle.answers.specs.Not.{negator}
 use Rattle.answers.proofs.Laws.Not.{closest-cases, closest-above}
 use Rattle.entities.specs.Closest.{closestRows}
-use Rattle.entities.proofs.Laws.{before-of, closest-fit, length-closestRows}
+use Rattle.types.proofs.Laws.{repeat-fits}
+use Rattle.entities.proofs.Laws.{closest-fit, length-closestRows}
 use Rattle.valid.specs.Inner.Steps.{validFlag, RejectPre, Rejected}
 use Rattle.valid.specs.Inner.Tops.{negates, NegatePre, NegatorsMarked, flagHere, keptFlag, KeepPre, Kept}
 use Rattle.valid.proofs.Above.{topOf-ext}
@@ -96,7 +98,7 @@ module _ (p t : List ℕ) (k : ℕ) (ends occ w : List ℕ) (pre : RejectPre p t
     a₁-long = ap length e₁ ∙ length-closestRows p t rest ∙ rest-long
 
     a₁-is : a₁ ≡ over (tabulate n (closest p t) ++ replicate (n * 2) 0) rest
-    a₁-is = e₁ ∙ closest-fit p t rest (pre .few) (pre .tagged) (omega (arith, rest-long)) (before-of p (down p t (pre .tree)))
+    a₁-is = e₁ ∙ closest-fit p t rest (repeat-fits p t (length rest) (pre .few) (pre .tagged) (omega (arith, rest-long)) (lawful-accepted p t (pre .tree)))
 
     fits₁ : n + (length w - n) ≤ length w
     fits₁ = omega (arith, pre .long)

@@ -1,4 +1,4 @@
-//! Fifty large cases, a fixed set up to the seed's random content.
+//! Large cases, a fixed set up to the seed's random content.
 
 use super::damage::{damage, Damage};
 use super::lend::{lend, Plan, Room};
@@ -47,6 +47,15 @@ fn rows() -> Vec<Row> {
     let deep = (Deep, Few(3));
     let wide = (Wide, Few(2));
     let trains = (Schedule, Few(1));
+    // One type at each of 64 levels, and over a thousand at each but the first.
+    let one_way = (Chains, Few(1));
+    let all_ways = (Chains, Spread);
+    // No type twice, and one for all children of a node.
+    let all_types = (Random, Spread);
+    let one_child_type = (Wide, Few(1));
+    // Types met at many parents, and one whose twins stand at the last alone.
+    let alike = (Alike, Few(1));
+    let one_leg = (OneLeg, Few(1));
     vec![
         row(1024, one_tag, Elca, (1, 0), DENSE, Exact, None),
         row(1024, all_tags, Slca, (2, 0), DENSE, More, None),
@@ -65,6 +74,8 @@ fn rows() -> Vec<Row> {
         row(4096, deep, Elca, (2, 0), SPARSE, Exact, Some(ExtraCounted)),
         row(4096, wide, Valid, (1, 3), DENSE, Exact, Some(MovedCounted)),
         row(4096, chains, Check, (2, 6), SPARSE, Exact, Some(Level65)),
+        row(4096, alike, Valid, (1, 1), DENSE, Exact, None),
+        row(4096, one_leg, Valid, (1, 1), DENSE, Exact, None),
         row(65_535, one_tag, Slca, (2, 0), DENSE, Exact, None),
         row(65_535, random, Elca, (2, 0), DENSE, Exact, None),
         row(65_535, trains, Valid, (1, 1), SPARSE, Exact, None),
@@ -85,6 +96,13 @@ fn rows() -> Vec<Row> {
         row(65_536, random, Elca, (4, 0), DENSE, Exact, None),
         row(65_536, random, Elca, (2, 0), DENSE, OwnShort, None),
         row(65_536, random, Valid, (2, 2), SPARSE, More, None),
+        row(65_536, one_way, Valid, (1, 1), DENSE, Exact, None),
+        row(65_536, all_ways, Valid, (1, 1), DENSE, Exact, None),
+        row(65_536, all_types, Valid, (1, 1), DENSE, Exact, None),
+        row(65_536, one_child_type, Valid, (1, 1), SPARSE, Exact, None),
+        row(65_536, alike, Valid, (1, 1), DENSE, More, None),
+        row(65_536, alike, Valid, (2, 1), SPARSE, Exact, None),
+        row(65_536, one_leg, Valid, (1, 1), DENSE, Exact, None),
         row(65_536, deep, Slca, (8, 0), SPARSE, Exact, None),
         row(65_536, trains, Check, (4, 4), SPARSE, More, None),
         row(65_536, trains, Valid, (4, 4), DENSE, Exact, None),
@@ -118,12 +136,14 @@ pub fn large(seed: u64, number: usize) -> (Call, Option<Damage>) {
     let words = (0..row.p + row.q)
         .map(|j| {
             // Few negative occurrences, so that not all is struck out. In a
-            // flat tree no entity has a text below it: there the root negates.
+            // flat tree no entity has a text below it, and where all tags
+            // differ there is no entity: there the root negates.
             let negative = j >= row.p;
-            let kind = match (row.words, row.shape) {
-                (kind, _) if !negative => kind,
-                (Kind::Each(_), Shape::Flat) => Kind::Texts(5),
-                (Kind::Each(_), _) => Kind::NotedEach(5),
+            let rootward = row.shape == Shape::Flat || row.tags == Tags::Spread;
+            let kind = match row.words {
+                kind if !negative => kind,
+                Kind::Each(_) if rootward => Kind::Texts(5),
+                Kind::Each(_) => Kind::NotedEach(5),
                 _ => Kind::Noted,
             };
             list(rng, &tree, kind)

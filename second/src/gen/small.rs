@@ -1,10 +1,10 @@
-//! Small cases: mostly 1 to 40 nodes, about half of them undamaged.
+//! Small cases: mostly 1 to 64 nodes, about half of them undamaged.
 
 use super::damage::{damage, Damage};
 use super::lend::{lend, Plan, Room};
 use super::rng::Rng;
 use super::shape::{large_tags, tree, turn_tags, Shape, Tags, Tree};
-use super::words::{list, nearly, Kind};
+use super::words::{beside, list, lone, nearly, nearly_noted, with, Kind};
 use crate::call::{Call, Search};
 use crate::tree::climb;
 
@@ -28,6 +28,7 @@ fn small_tree(rng: &mut Rng, tall: bool) -> Tree {
         (2, Shape::Chains),
         (4, Shape::Flat),
         (38, Shape::Schedule),
+        (12, Shape::Alike),
     ]);
     let how = rng.weighted(&[
         (15, Tags::Few(1)),
@@ -59,7 +60,8 @@ const NEGATIVE: &[(usize, Kind)] = &[
     (5, Kind::Each(30)),
     (15, Kind::Texts(15)),
     (7, Kind::Others(40)),
-    (45, Kind::Noted),
+    (30, Kind::Noted),
+    (15, Kind::Lone),
 ];
 
 /// Words for a tree in which NOT strikes out some answers and leaves some.
@@ -102,6 +104,35 @@ fn lively(rng: &mut Rng, p: usize, q: usize) -> (Tree, Vec<Vec<u32>>) {
     (tree, words)
 }
 
+/// A tree in which types repeat at many parents, and words as for a lively one.
+/// The first negative word stands, where it can, below an entity that has no
+/// sibling with its tag, or below a node that only looks like an entity. Often
+/// a text beside this node holds every positive word: there the answer shows
+/// what negates.
+fn alike(rng: &mut Rng, p: usize, q: usize) -> (Tree, Vec<Vec<u32>>) {
+    let n = rng.range(20, 64);
+    let shape = rng.weighted(&[(70, Shape::Alike), (20, Shape::OneLeg), (10, Shape::Schedule)]);
+    let tree = tree(rng, n, shape, Tags::Few(1), 0);
+    let mut words = lists(rng, &tree, p, q, [LIVELY_POSITIVE, LIVELY_NEGATIVE]);
+    let (lone, nearly) = (lone(&tree), nearly_noted(&tree));
+    let below = if rng.percent(60) || nearly.is_empty() {
+        lone
+    } else {
+        nearly
+    };
+    if below.is_empty() {
+        return (tree, words);
+    }
+    let (text, node) = rng.pick(&below);
+    words[p] = vec![text];
+    let texts = beside(&tree, node);
+    if !texts.is_empty() && rng.percent(60) {
+        let held = rng.pick(&texts);
+        words[..p].iter_mut().for_each(|word| *word = with(word, held));
+    }
+    (tree, words)
+}
+
 /// A tree in which a child of the root has the root's tag and no twin, and the
 /// first negative word stands at a text below this child. The root is nobody's
 /// child, so the child is no entity, and the root negates.
@@ -136,8 +167,9 @@ fn how_many_words(rng: &mut Rng, search: Search) -> (usize, usize) {
 pub fn plan(rng: &mut Rng, search: Search, tall: bool) -> Plan {
     let (p, q) = how_many_words(rng, search);
     let (mut tree, words) = match rng.range(0, 99) {
-        0..=44 if q > 0 && !tall => lively(rng, p, q),
-        45..=52 if q > 0 && !tall => rooted(rng, p, q),
+        0..=34 if q > 0 && !tall => lively(rng, p, q),
+        35..=42 if q > 0 && !tall => rooted(rng, p, q),
+        43..=67 if q > 0 && !tall => alike(rng, p, q),
         _ => {
             let tree = small_tree(rng, tall);
             let words = lists(rng, &tree, p, q, [POSITIVE, NEGATIVE]);

@@ -102,11 +102,14 @@ fn lawful(rng: &mut Rng) -> Sheet {
 }
 
 /// A lawful index over a tree: each of p positive words at a share of the
-/// nodes in a hundred, and q negative words.
+/// nodes in a hundred, and q negative words below entities.
 fn call_over(rng: &mut Rng, tree: Tree, share: usize, p: usize, q: usize) -> Call {
     let words = (0..p + q)
         .map(|j| {
-            let kind = if j < p { Kind::Each(share) } else { Kind::Noted };
+            let kind = match j < p {
+                true => Kind::Each(share),
+                false => rng.pick(&[Kind::Noted, Kind::Lone]),
+            };
             list(rng, &tree, kind)
         })
         .collect();
@@ -121,7 +124,14 @@ fn call_over(rng: &mut Rng, tree: Tree, share: usize, p: usize, q: usize) -> Cal
 
 /// A lawful index of so many nodes.
 fn long_call(rng: &mut Rng, n: usize, p: usize, q: usize) -> Call {
-    let shape = rng.pick(&[Shape::Random, Shape::Deep, Shape::Schedule, Shape::Flat]);
+    let shape = rng.pick(&[
+        Shape::Random,
+        Shape::Deep,
+        Shape::Schedule,
+        Shape::Flat,
+        Shape::OneLeg,
+        Shape::Alike,
+    ]);
     let tree = tree(rng, n, shape, Tags::Few(3), 50);
     call_over(rng, tree, 20, p, q)
 }
@@ -136,7 +146,13 @@ fn long(rng: &mut Rng, n: usize) -> Sheet {
 /// have no child.
 fn large(rng: &mut Rng) -> Sheet {
     let n = rng.range(NODES - 40, NODES);
-    let shape = rng.weighted(&[(6, Shape::Flat), (2, Shape::Wide), (2, Shape::Schedule)]);
+    let shape = rng.weighted(&[
+        (6, Shape::Flat),
+        (2, Shape::Wide),
+        (2, Shape::Schedule),
+        (1, Shape::OneLeg),
+        (1, Shape::Alike),
+    ]);
     let tree = tree(rng, n, shape, Tags::Few(3), 50);
     let (p, q) = (rng.range(1, 3), rng.range(0, 1));
     let share = rng.range(90, 100);

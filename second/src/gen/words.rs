@@ -2,7 +2,9 @@
 
 use super::rng::Rng;
 use super::shape::Tree;
-use crate::class::{classes, closest_entity};
+use crate::class::{classes, closest_entity, Class};
+use crate::tree::{climb, level, under};
+use std::collections::{BTreeMap, BTreeSet};
 
 #[derive(Clone, Copy, PartialEq, Eq, Debug)]
 pub enum Kind {
@@ -21,6 +23,9 @@ pub enum Kind {
     Noted,
     /// At text nodes below an entity with a chance of so many of a hundred.
     NotedEach(usize),
+    /// One to three text nodes whose closest entity has no sibling with its
+    /// tag; where there are none, one to three below an entity.
+    Lone,
     /// At each node with a chance of so many of a thousand.
     Thin(usize),
 }
@@ -55,6 +60,56 @@ fn noted(tree: &Tree) -> Vec<u32> {
     })
 }
 
+/// For each node whether it has a sibling with its tag.
+fn twins(tree: &Tree) -> Vec<bool> {
+    let place = |v: usize| (tree.parents[v], tree.tags[v]);
+    let mut alike = BTreeMap::new();
+    for v in 1..tree.parents.len() {
+        *alike.entry(place(v)).or_insert(0) += 1;
+    }
+    (0..tree.parents.len())
+        .map(|v| v != 0 && alike[&place(v)] >= 2)
+        .collect()
+}
+
+/// Text nodes, each with a node above it.
+pub type Below = Vec<(u32, usize)>;
+
+/// The text nodes whose closest entity has no sibling with its tag, with that
+/// entity.
+pub fn lone(tree: &Tree) -> Below {
+    let classes = classes(&tree.parents, &tree.tags);
+    let twins = twins(tree);
+    nodes_where(tree, |u| tree.tags[u] == 0)
+        .into_iter()
+        .map(|u| (u, closest_entity(&tree.parents, &classes, u as usize)))
+        .filter(|&(_, v)| v != 0 && !twins[v])
+        .collect()
+}
+
+/// The text nodes with the nearest node above them that is neither attribute
+/// nor entity, though it has the level and the tag of one with a twin; without
+/// those that have an entity nearer.
+pub fn nearly_noted(tree: &Tree) -> Below {
+    let classes = classes(&tree.parents, &tree.tags);
+    let twins = twins(tree);
+    let place = |v: usize| (level(&tree.parents, v), tree.tags[v]);
+    let taken: BTreeSet<_> = (0..twins.len()).filter(|&v| twins[v]).map(place).collect();
+    let near = |u: u32| {
+        climb(&tree.parents, u as usize)
+            .skip(1)
+            .find(|&v| {
+                classes[v] == Class::Entity || (classes[v] == Class::Dummy && taken.contains(&place(v)))
+            })
+            .filter(|&v| classes[v] == Class::Dummy)
+            .map(|v| (u, v))
+    };
+    nodes_where(tree, |u| tree.tags[u] == 0)
+        .into_iter()
+        .filter_map(near)
+        .collect()
+}
+
 /// A lawful list of the kind.
 pub fn list(rng: &mut Rng, tree: &Tree, kind: Kind) -> Vec<u32> {
     match kind {
@@ -73,8 +128,34 @@ pub fn list(rng: &mut Rng, tree: &Tree, kind: Kind) -> Vec<u32> {
             nodes.retain(|_| rng.percent(percent));
             nodes
         }
+        Kind::Lone => {
+            let texts: Vec<u32> = lone(tree).iter().map(|&(u, _)| u).collect();
+            match texts.is_empty() {
+                true => few_of(rng, &noted(tree)),
+                false => few_of(rng, &texts),
+            }
+        }
         Kind::Thin(thousandths) => nodes_where(tree, |_| rng.range(0, 999) < thousandths),
     }
+}
+
+/// The texts nearest to the node v that are not under it: those under the
+/// lowest node above v that has some.
+pub fn beside(tree: &Tree, v: usize) -> Vec<u32> {
+    climb(&tree.parents, v)
+        .skip(1)
+        .map(|above| {
+            nodes_where(tree, |u| {
+                tree.tags[u] == 0 && under(&tree.parents, above, u) && !under(&tree.parents, v, u)
+            })
+        })
+        .find(|texts| !texts.is_empty())
+        .unwrap_or_default()
+}
+
+/// The list with one more entry, where it is not there already.
+pub fn with(list: &[u32], entry: u32) -> Vec<u32> {
+    set([list, &[entry]].concat())
 }
 
 /// The list with one entry put in, taken out or moved, where this is possible.

@@ -2,9 +2,14 @@
 
 #![allow(dead_code)]
 
-use second::call::{Call, Index, Search};
+use second::call::{After, Call, Index, Search, ACCEPTED};
+use second::class::Class;
 use second::count::counts;
+use second::judge::judge;
 use second::list::lists;
+use second::slca::slca;
+use second::valid;
+use std::collections::BTreeMap;
 
 /// An undamaged call with right counts, long buffers and 7 in every entry.
 pub fn lawful(
@@ -47,4 +52,42 @@ pub fn index(call: &Call) -> Index<'_> {
         words: lists(&call.ends, &call.occurrences),
         p: call.p as usize,
     }
+}
+
+/// For each node whether it has a sibling with its tag: 01's own rule for
+/// entities.
+pub fn twins(index: &Index) -> Vec<bool> {
+    let place = |v: usize| (index.parents[v], index.tags[v]);
+    let mut alike = BTreeMap::new();
+    for v in 1..index.n() {
+        *alike.entry(place(v)).or_insert(0) += 1;
+    }
+    (0..index.n()).map(|v| v != 0 && alike[&place(v)] >= 2).collect()
+}
+
+/// Valid SLCA where the entities are the nodes that pass a rule, and are
+/// neither text nor attribute.
+pub fn valid_by(index: &Index, rule: impl Fn(usize) -> bool) -> Vec<u32> {
+    let mut classes = second::class::classes(index.parents, index.tags);
+    for (v, class) in classes.iter_mut().enumerate() {
+        if [Class::Entity, Class::Dummy].contains(class) {
+            *class = if rule(v) { Class::Entity } else { Class::Dummy };
+        }
+    }
+    let negators = valid::negators_climbing(index, &classes);
+    valid::climbing(index, &slca(index), &negators)
+}
+
+/// Of a call of the search with NOT that has a negative word and is accepted:
+/// whether 01's own rule for entities gives another answer.
+pub fn types_matter(call: &Call) -> Option<bool> {
+    if call.search != Search::Valid || call.q == 0 {
+        return None;
+    }
+    let After { reply, out, .. } = judge(call);
+    (reply.refusal == ACCEPTED).then(|| {
+        let index = index(call);
+        let twins = twins(&index);
+        valid_by(&index, |v| twins[v]) != out[..reply.total as usize]
+    })
 }

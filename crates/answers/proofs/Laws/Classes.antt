@@ -1,8 +1,8 @@
 -- The classes in plain words, both ways, and that every node has exactly one. Assumes nothing.
---   child-plain, one-text-plain, twin-plain    a test passes exactly where the plain statement holds
---   class-one, class-fits, class-is                       a node's class is the first rule that fits, and no other class fits it
---   entity-plain                               a node is an entity exactly where that rule is the third
---   closest-plain, closest-is                  the closest entity of a text node is the nearest entity above it, or the root; and no other node is
+--   child-plain, one-text-plain, twin-plain, repeats-plain    a test passes exactly where the plain statement holds
+--   class-one, class-fits, class-is                           a node's class is the first rule that fits, and no other class fits it
+--   entity-plain                                              a node is an entity exactly where that rule is the third
+--   closest-plain, closest-is                                 the closest entity of a text node is the nearest entity above it, or the root; and no other node is
 -- Letters: p parents, t tags; v node, w another, c child, x text node.
 use Prim.Native.Nat.{ℕ, _<_, _≤_}
 use mathlib.Core.Path.{_≡_, refl, sym, ap, subst, _∙_}
@@ -24,8 +24,9 @@ use Rattle.tree.specs.Plain.{Down}
 use Rattle.tree.specs.Rules.{text}
 use Rattle.tree.proofs.Laws.Under.{under-plain, under-of-plain, under-le}
 use Rattle.tree.proofs.Laws.Ways.{Nearest, line-some, nearest-at, nearest-unique}
-use Rattle.answers.specs.Classes.{Class, isText, isAttribute, isEntity, isDummy, children, oneText, sibling, twin, classOf, isEntityClass, entity, closest}
-use Rattle.answers.specs.Plain.{Text, Child, OneText, Twin, Entity, Fits, Ancestor, Closest, nearest, root}
+use Rattle.answers.specs.Classes.{Class, isText, isAttribute, isEntity, isDummy, children, oneText, sibling, twin, repeats, classOf, isEntityClass, entity, closest}
+use Rattle.answers.specs.Plain.{Text, Child, OneText, Twin, Repeats, Entity, Fits, Ancestor, Closest, nearest, root}
+use Rattle.answers.proofs.Laws.Types.{same-type-plain, Repeated, repeats-at, repeats-of}
 use Rattle.answers.proofs.Laws.Not.{text-no-entity, closest-nearest, closest-root}
 
 -- ---- text, child
@@ -124,6 +125,23 @@ module _ (p t : List ℕ) (v : ℕ) where
           beside : Child p (parent p v) (r .other)
           beside = record { node = r .sibling .node; notRoot = r .sibling .notRoot; hangs = r .sibling .hangs ∙ sym (r .child .hangs) }
 
+-- ---- some node of the same type has a twin
+pub repeats-plain : (p : List ℕ) → Down p (length p) → (t : List ℕ) (v : ℕ) → v < length p → (repeats p t v ≡ true) ↔ Repeats p t v
+repeats-plain p d t v l = (λ e. to (repeats-at p t v e), back)
+  where
+    to : Repeated p t v → Repeats p t v
+    to r = record {
+      node = r .node;
+      below = r .below;
+      sameType = same-type-plain p (length p) d t (r .node) v (r .below) l .0 (r .sameType);
+      twin = twin-plain p t (r .node) (r .below) .0 (r .twin);
+    }
+
+    back : Repeats p t v → repeats p t v ≡ true
+    back r =
+        repeats-of p t (r .node) v (r .below) (same-type-plain p (length p) d t (r .node) v (r .below) l .1 (r .sameType))
+        (twin-plain p t (r .node) (r .below) .1 (r .twin))
+
 -- ---- the class of a node
 -- Of two classes that fit a node, each is the first rule that does: they are one.
 pub class-one : (p t : List ℕ) (v : ℕ) (a b : Class) → Fits p t v a → Fits p t v b → a ≡ b
@@ -138,21 +156,21 @@ class-one p t v isAttribute isDummy f g = absurd (g .noAttribute (f .oneText))
 class-one p t v isEntity isText f g = absurd (f .noText g)
 class-one p t v isEntity isAttribute f g = absurd (f .noAttribute (g .oneText))
 class-one p t v isEntity isEntity f g = refl
-class-one p t v isEntity isDummy f g = absurd (g .noEntity (f .twin))
+class-one p t v isEntity isDummy f g = absurd (g .noEntity (f .repeats))
 class-one p t v isDummy isText f g = absurd (f .noText g)
 class-one p t v isDummy isAttribute f g = absurd (f .noAttribute (g .oneText))
-class-one p t v isDummy isEntity f g = absurd (f .noEntity (g .twin))
+class-one p t v isDummy isEntity f g = absurd (f .noEntity (g .repeats))
 class-one p t v isDummy isDummy f g = refl
 
-module _ (p t : List ℕ) (v : ℕ) (l : v < length p) where
+module _ (p : List ℕ) (d : Down p (length p)) (t : List ℕ) (v : ℕ) (l : v < length p) where
   no-text : text t v ≡ false → Text t v → ⊥
   no-text e h = bool-not-both (text t v) (text-plain t v .1 h) e
 
   no-attribute : oneText p t v ≡ false → OneText p t v → ⊥
   no-attribute e h = bool-not-both (oneText p t v) (one-text-plain p t v .1 h) e
 
-  no-twin : twin p t v ≡ false → Twin p t v → ⊥
-  no-twin e h = bool-not-both (twin p t v) (twin-plain p t v l .1 h) e
+  no-repeats : repeats p t v ≡ false → Repeats p t v → ⊥
+  no-repeats e h = bool-not-both (repeats p t v) (repeats-plain p d t v l .1 h) e
 
   -- The class of a node is the first rule that fits.
   pub class-fits : Fits p t v (classOf p t v)
@@ -160,9 +178,9 @@ module _ (p t : List ℕ) (v : ℕ) (l : v < length p) where
   class-fits =
       ⊎-elim (λ (a : text t v ≡ true). rw a (text-plain t v .0 a))
       (λ (a : text t v ≡ false). ⊎-elim (λ (b : oneText p t v ≡ true). rw (a, b) (record { noText = no-text a; oneText = one-text-plain p t v .0 b }))
-      (λ (b : oneText p t v ≡ false). ⊎-elim (λ (c : twin p t v ≡ true). rw (a, b, c) (record { noText = no-text a; noAttribute = no-attribute b; twin = twin-plain p t v l .0 c }))
-      (λ (c : twin p t v ≡ false). rw (a, b, c) (record { noText = no-text a; noAttribute = no-attribute b; noEntity = no-twin c }))
-      (bool-cases (twin p t v)))
+      (λ (b : oneText p t v ≡ false). ⊎-elim (λ (c : repeats p t v ≡ true). rw (a, b, c) (record { noText = no-text a; noAttribute = no-attribute b; repeats = repeats-plain p d t v l .0 c }))
+      (λ (c : repeats p t v ≡ false). rw (a, b, c) (record { noText = no-text a; noAttribute = no-attribute b; noEntity = no-repeats c }))
+      (bool-cases (repeats p t v)))
       (bool-cases (oneText p t v)))
       (bool-cases (text t v))
 
@@ -196,7 +214,7 @@ module _ (p : List ℕ) (d : Down p (length p)) (t : List ℕ) (x : ℕ) (l : x 
   plain-above w a = under-of-plain p (length p) d w x l (a .above)
 
   entity-above : (w : ℕ) → Entity p t w → Ancestor p w x → entity p t w ≡ true
-  entity-above w e a = entity-plain p t w (node-above w (plain-above w a)) .1 e
+  entity-above w e a = entity-plain p d t w (node-above w (plain-above w a)) .1 e
 
   -- The closest entity of a text node is the nearest entity above it, or the root where there is none.
   pub closest-plain : Closest p t x (closest p t x)
@@ -206,7 +224,7 @@ module _ (p : List ℕ) (d : Down p (length p)) (t : List ℕ) (x : ℕ) (l : x 
       some : someOf (entity p t) (line p x) ≡ true → Closest p t x (closest p t x)
       some q =
           let r : Nearest p (entity p t) x (closest p t x) = nearest-at p (length p) d (entity p t) 0 x l q in
-          nearest (entity-plain p t (closest p t x) (node-above (closest p t x) (r .above)) .0 (r .passes)) (above-text (closest p t x) (r .passes) (r .above))
+          nearest (entity-plain p d t (closest p t x) (node-above (closest p t x) (r .above)) .0 (r .passes)) (above-text (closest p t x) (r .passes) (r .above))
           (λ w e a. under-plain p (length p) d w (closest p t x) (node-above (closest p t x) (r .above)) (r .lowest w (entity-above w e a) (plain-above w a)))
 
       none : someOf (entity p t) (line p x) ≡ false → Closest p t x (closest p t x)
@@ -221,7 +239,7 @@ module _ (p : List ℕ) (d : Down p (length p)) (t : List ℕ) (x : ℕ) (l : x 
       (record {
         passes = entity-above v e a;
         above = plain-above v a;
-        lowest = λ w f h. under-of-plain p (length p) d w v (node-above v (plain-above v a)) (low w (entity-plain p t w (node-above w h) .0 f) (above-text w f h));
+        lowest = λ w f h. under-of-plain p (length p) d w v (node-above v (plain-above v a)) (low w (entity-plain p d t w (node-above w h) .0 f) (above-text w f h));
       })
       (closest-nearest p d t x l v (entity-above v e a) (plain-above v a))
-  closest-is v (root none q) = q ∙ sym (closest-root p d t x l (λ w f h. none w (entity-plain p t w (node-above w h) .0 f) (above-text w f h)))
+  closest-is v (root none q) = q ∙ sym (closest-root p d t x l (λ w f h. none w (entity-plain p d t w (node-above w h) .0 f) (above-text w f h)))

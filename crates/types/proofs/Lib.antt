@@ -1,0 +1,20 @@
+pub mod Laws
+mod Places
+mod Piles
+mod Digits
+mod Counting
+mod Dealing
+mod Elements
+mod Levels
+mod Filling
+mod Orders
+mod Passing
+mod Kin
+mod Numbers
+mod Nearby
+mod Taking
+mod Turns
+mod Ending
+mod Noting
+mod Spreading
+mod Making
