@@ -1,0 +1,15 @@
+pub mod Bytes
+pub mod Classes
+pub mod Spans
+pub mod Grammar
+pub mod Markup
+pub mod Tree
+pub mod Tags
+pub mod Limits
+pub mod Machine
+pub mod Reader
+pub mod Scan
+pub mod Check
+pub mod Pieces
+pub mod Turns
+pub mod Notes
