@@ -1,0 +1,11 @@
+pub mod Laws
+mod Classes
+mod Reading
+mod Data
+mod Comments
+mod References
+mod Loops
+mod Tags
+mod Pieces
+mod Sizes
+pub mod Cases
