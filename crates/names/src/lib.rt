@@ -1,0 +1,88 @@
+// The names of a row of nodes, numbered in order of first appearance. `number` is the entry: the marks of the nodes become the numbers.
+// Names are looked up in a tree that tells them apart bit by bit (`lookup`): a name that was seen before is found in at most eight steps for each of its bytes, and eight
+// more, whatever the other names are.
+ghost use Rattle.names.specs.Names.{Numbered};
+ghost use Rattle.names.specs.Inner.Calls.{Fit, TurnPre, Turned, All};
+
+mod compare;
+mod lookup;
+
+// What `compare::differ` gives for two names that are the same.
+const SAME: usize = 268435456;
+
+// Numbers node v, and says how many names were seen then: `count` before it.
+fn take_up(
+    text: &[u8],
+    firsts: &[u32],
+    v: usize,
+    count: u32,
+    tags: &mut [u32],
+    work: &mut [u32],
+) -> u32
+    requires { ⌜ TurnPre (now text) (now firsts) v count (now tags) (now work) ⌝ }
+    ensures { λ r. ⌜ Turned (now (text .entry)) (now (firsts .entry)) v count (now (tags .entry)) (now (work .entry)) (now (tags .exit)) (now (work .exit)) r ⌝ }
+{
+    if tags[v] == 0 {
+        return count;
+    }
+    let n = tags.len();
+    let place = seq::widen(firsts[v]) + 1;
+    let size = bytes::skip(text, place, 7, 9) - place;
+    if size == 0 {
+        tags[v] = 0;
+        return count;
+    }
+    if count == 0 {
+        work[0] = 2 * (v as u32);
+        tags[v] = 1;
+        return 1;
+    }
+    let y = lookup::find(text, place, size, &*work, n);
+    let d = compare::differ(text, place, size, seq::widen(firsts[y]) + 1);
+    if d == SAME {
+        tags[v] = tags[y];
+        return count;
+    }
+    lookup::put(text, place, size, work, n, v, d);
+    tags[v] = count + 1;
+    count + 1
+}
+
+// Numbers all nodes, in order. What the rows hold then is of no use.
+fn take_all(text: &[u8], firsts: &[u32], tags: &mut [u32], work: &mut [u32])
+    requires { ⌜ Fit (now text) (now firsts) (now tags) (now work) ⌝ }
+    ensures { λ r. ⌜ All (now (text .entry)) (now (firsts .entry)) (now (tags .entry)) (now (work .entry)) (now (tags .exit)) (now (work .exit)) ⌝ }
+{
+    let mut count: u32 = 0;
+    let mut v: usize = 0;
+    while v < tags.len() {
+        count = take_up(text, firsts, v, count, &mut *tags, &mut *work);
+        v += 1;
+    }
+}
+
+// The tags of a row of nodes. In `tags` each element has a mark, not 0, and data has 0; `firsts` has the place of each element's `<` in the text. Each mark becomes
+// the number of the element's name, from 1 in order of first appearance, or 0 where no name stands after the `<`. The tree of names is in `work` meanwhile.
+// Says whether all fits: at most 65,536 nodes, a place for each, three entries of work for each, and at most 16,777,216 bytes of text. The first three entries of
+// work for each node are 0 then, and later ones as they were. Where something does not fit, nothing is changed.
+pub fn number(text: &[u8], firsts: &[u32], tags: &mut [u32], work: &mut [u32]) -> bool
+    ensures { λ r. ⌜ Numbered (now (text .entry)) (now (firsts .entry)) (now (tags .entry)) (now (work .entry)) (now (tags .exit)) (now (work .exit)) r ⌝ }
+{
+    let n = tags.len();
+    if 65536 < n {
+        return false;
+    }
+    if firsts.len() < n {
+        return false;
+    }
+    let m = 3 * n;
+    if work.len() < m {
+        return false;
+    }
+    if 16777216 < text.len() {
+        return false;
+    }
+    take_all(text, firsts, tags, &mut *work);
+    seq::clear(&mut work[..m]);
+    true
+}
