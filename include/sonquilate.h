@@ -1,8 +1,8 @@
-/* sonquilate.h: XML keyword search over a lent index, version 0.1.
+/* sonquilate.h: XML keyword search over a lent index, and the reader that makes the index's tree of XML text; version 0.1.
  *
  * What is not declared here is no interface. No function allocates, keeps a pointer, or has a state of its own: the caller
- * owns every buffer. Calls that share nothing but the index, which is only read, may run at once: each needs a work, an out
- * and an own of its own.
+ * owns every buffer. Calls that share nothing but what is only read, the index or the text, may run at once: each needs its
+ * own of every buffer that it writes.
  *
  * [P: d] marks what is proved of the library for every input, on the machine of the language that it is written in, by
  * equations with the definitions d. [T] marks what is only tested. docs/TRUST.md says what a proof covers and in which file
@@ -18,7 +18,29 @@
  *   work         at least (k + 2) * n entries, with any content
  * "Under v" means at v itself or at a descendant of v.
  *
- * REPLIES. Of the refusals that apply the lowest number is given. [P: checkReply, elcaReply, slcaReply, validReply]
+ * THE LENT TEXT, for sq_read: bytes, of a profile of XML 1.0 in ASCII.
+ *   document    one root element, with white space and comments before and after it
+ *   element     a start tag, content and an end tag with the same name, or an empty-element tag; no attributes; white space
+ *               in a tag only before its > or />
+ *   name        a letter, _ or :, then any of letters, digits, - . _ and :, with upper and lower case apart
+ *   content     elements, data, references and comments in any order
+ *   data        any characters but < and &, and never ]]> in one piece; a reference or a comment in between parts it
+ *   reference   &amp; &lt; &gt; &apos; or &quot; and no other
+ *   comment     <!--, then any characters without -- among them or - at their end, then -->; so <!--> and <!---> are beginnings
+ *   character   the bytes 9, 10, 13 and 32 to 127; of these 9, 10, 13 and 32 are white space
+ * No part of it: XML declaration, byte-order mark, DOCTYPE, processing instructions, CDATA sections, other references.
+ *
+ * THE TREE OF A TEXT. Elements are nodes. All data and references between two tags, comments dropped, are one node, called
+ * text in the index; where all of it is white space there is none. Nodes are numbered in document order from 0, the root; n
+ * is how many there are. Places count bytes from 0, and a node's last place is that of its last byte, not of the next.
+ *   parents      the parent of each node, 0 for the root
+ *   tags         0 for a node of data; for an element the number of its name, from 1, in order of first appearance
+ *   firsts       an element's first <; the first byte of the data, white space included
+ *   lasts        the > of an element's end tag or empty-element tag; the last byte of the data, white space included
+ * Such a tree is one that the searches take: its parents and tags never give SQ_TREE. [P: read-lawful]
+ *
+ * REPLIES of all calls but sq_read. Of the refusals that apply the lowest number is given. [P: checkReply, elcaReply,
+ * slcaReply, validReply]
  *   number      given exactly when                                                             place                  total
  *   SQ_OK       nothing below applies                                                          0                      the answers
  *   SQ_SIZE     n is not from 1 to 65,536, p not from 1 to 8, or k above 8; tags are not       0                      0
@@ -34,13 +56,28 @@
  *   SQ_ROOM     out, or own in sq_elca, is too short for the answers                           0                      the answers
  * sq_check has no answers: its total is always 0, and it never gives SQ_ROOM. "The answers" is how many there are.
  *
- * BUFFERS. The index is only read. Under SQ_SIZE nothing is touched. Under every other reply the first (k + 2) * n entries of
- * work are 0 and the rest is untouched. out and own are as lent under every refusal; under SQ_OK their first entries are
- * written, and later entries stay. [P: workAfter, elcaOut, elcaOwn, slcaOut, validOut]
+ * REPLIES of sq_read. SQ_SIZE goes before all others; of SQ_MARKUP and SQ_TREE the one whose byte comes first is given; SQ_ROOM
+ * comes last. [P: readReply]
+ *   number      given exactly when                                                             place                  total
+ *   SQ_OK       nothing below applies                                                          0                      n
+ *   SQ_SIZE     text is longer than 16,777,216 bytes                                           0                      0
+ *   SQ_MARKUP   the text is not of the profile. Its byte is the first at which no text of      this byte              0
+ *               the profile goes on, or text_len where the text only stops short
+ *   SQ_TREE     a node is of level 65, where the root's is 1, or is numbered 65,536. Its       the lowest such node   0
+ *               byte is the > of that element's first tag, or the first byte of that
+ *               data which is not white space
+ *   SQ_ROOM     parents, tags, firsts or lasts is shorter than n, or work than 3 * n           0                      n
  *
- * ASKED OF C, which no proof can see: each pointer is aligned for uint32_t and valid for its length, for writing too in
- * work, out and own; these three overlap nothing else that is lent. A slice of length 0 is neither read nor written, and may
- * be lent as a null pointer [T].
+ * BUFFERS of all calls but sq_read. The index is only read. Under SQ_SIZE nothing is touched. Under every other reply the
+ * first (k + 2) * n entries of work are 0 and the rest is untouched. out and own are as lent under every refusal; under SQ_OK
+ * their first entries are written, and later entries stay. [P: workAfter, elcaOut, elcaOwn, slcaOut, validOut]
+ * BUFFERS of sq_read. The text is only read. Under every refusal nothing is touched. Under SQ_OK the first n entries of
+ * parents, tags, firsts and lasts are written, the first 3 * n of work are 0, and later entries of all five stay.
+ * [P: Reads]
+ *
+ * ASKED OF C, which no proof can see: each pointer to numbers is aligned for uint32_t, and each pointer valid for its length,
+ * for writing too where it is not const; what may be written overlaps nothing else that is lent. A slice of length 0 is
+ * neither read nor written, and may be lent as a null pointer [T].
  * That these declarations fit the code, and that nothing is written past a slice: [T].
  */
 #ifndef SONQUILATE_H
@@ -59,6 +96,7 @@ extern "C" {
 #define SQ_LIST 3u
 #define SQ_COUNT 4u
 #define SQ_ROOM 5u
+#define SQ_MARKUP 7u
 
 typedef struct sq_reply {
     uint32_t refusal;
@@ -107,6 +145,13 @@ sq_reply sq_slca(const uint32_t *parents, size_t parents_len, const uint32_t *ta
 sq_reply sq_valid(const uint32_t *parents, size_t parents_len, const uint32_t *tags, size_t tags_len, uint32_t p, uint32_t q,
                   const uint32_t *ends, size_t ends_len, const uint32_t *occurrences, size_t occurrences_len,
                   const uint32_t *counts, size_t counts_len, uint32_t *work, size_t work_len, uint32_t *out, size_t out_len);
+
+/* The reader: from the bytes of a text to its tree, as above. With 65,536 entries in each of parents, tags, firsts and lasts and
+ * 196,608 in work it never gives SQ_ROOM.
+ * Replies: SQ_SIZE; SQ_MARKUP or SQ_TREE, whichever comes first in the text; SQ_ROOM; or SQ_OK with total n. [P: readReply]
+ * Buffers: under SQ_OK the rows of the tree, and work, as above. Under a refusal all are as lent. [P: Reads] */
+sq_reply sq_read(const uint8_t *text, size_t text_len, uint32_t *parents, size_t parents_len, uint32_t *tags, size_t tags_len,
+                 uint32_t *firsts, size_t firsts_len, uint32_t *lasts, size_t lasts_len, uint32_t *work, size_t work_len);
 
 #ifdef __cplusplus
 }

@@ -4,6 +4,8 @@ ghost use Rattle.index.specs.Contracts.{lent, Checked};
 ghost use Rattle.slca.specs.Contracts.{SlcaSearched};
 ghost use Rattle.elca.specs.Contracts.{ElcaSearched};
 ghost use Rattle.valid.specs.Contracts.{ValidSearched};
+ghost use Rattle.reader.specs.Read.{Reads};
+ghost use Rattle.reader.specs.Read as read;
 use index::Reply;
 
 // The index check alone.
@@ -91,4 +93,21 @@ pub extern "C" fn sq_valid(
         (now (counts .entry))) (now (work .entry)) (now (out .entry)) r (now (work .exit)) (now (out .exit)) ⌝ }
 {
     valid::valid(parents, tags, p, q, ends, occurrences, counts, work, out)
+}
+
+// XML text into parents, tags, and each node's first and last place.
+#[no_mangle]
+pub extern "C" fn sq_read(
+    text: &[u8],
+    parents: &mut [u32],
+    tags: &mut [u32],
+    firsts: &mut [u32],
+    lasts: &mut [u32],
+    work: &mut [u32],
+) -> Reply
+    ensures { λ r. ⌜ Reads (now (text .entry))
+        (read.lent (now (parents .entry)) (now (tags .entry)) (now (firsts .entry)) (now (lasts .entry)) (now (work .entry))) r
+        (read.lent (now (parents .exit)) (now (tags .exit)) (now (firsts .exit)) (now (lasts .exit)) (now (work .exit))) ⌝ }
+{
+    reader::read(text, parents, tags, firsts, lasts, work)
 }

@@ -1,0 +1,159 @@
+-- The replies of a call that reads, by the grammar alone: each is given exactly where it is true.
+--   profile-accepted   accepted exactly the texts of the profile that keep the limits and fit; what is written is the tree of the text
+--   markup-first       MARKUP's place is the first byte at which no text of the profile continues, where no node over a limit is met before
+--   tree-first         TREE's place is the first node over a limit, where nothing up to the byte at which it is met breaks the markup
+-- Letters as in specs/Calls; r the reply. Assumes nothing.
+use Prim.Native.Nat.{ℕ, _*_}
+use mathlib.Core.Path.{_≡_, refl, sym, ap, subst, _∙_}
+use mathlib.Core.Logic.{_↔_}
+use mathlib.Core.List.{List}
+use mathlib.Core.Bool.{Bool, true, false, cond, false≢true}
+use native.Mathlib.Omega.{arith}
+use lib.Dec.{eqb}
+use lib.ListN.{length}
+use borrow.Author.Tests.{eq-eqb, eqb-true, eqb-false}
+use Rattle.seq.specs.Memory.{zeroed, over}
+use Rattle.index.specs.Replies.{accepted, TREE, ROOM, refused, totalled, keptOr}
+use Rattle.index.specs.declared.Reply.{Reply}
+use Rattle.profile.specs.Grammar.{Document, text, IsText}
+use Rattle.profile.specs.Tree.{Node, tree}
+use Rattle.profile.specs.Limits.{keysOf, firstOver}
+use Rattle.profile.specs.Limits as limits
+use Rattle.profile.specs.Reader.{treeOf}
+use Rattle.profile.proofs.Complete.{tree-read}
+use Rattle.judge.specs.Judge.{MARKUP, longest, maxLevel, maxNodes, judgeReply}
+use Rattle.judge.proofs.Meaning.{Kept, BrokenAt, OverAt, accepted-means, accepted-given, markup-means, markup-given, tree-means, tree-given}
+use Rattle.reader.specs.Read.{Lent, fitsIn, readReply, parentsOf, tagsIn, firstsOf, lastsOf, Reads}
+use Rattle.reader_laws.specs.Calls.{Rows, Taken, Broken, Overrun}
+
+-- ---- the reply of the call and the judge's
+-- A refusal but ROOM is the judge's.
+judged : (T : List ℕ) (l : Lent) (r : Reply) → (r .refusal ≡ accepted → ⊥) → (r .refusal ≡ ROOM → ⊥) → (readReply T l ≡ r) ↔ (judgeReply T ≡ r)
+unfolding readReply
+judged T l r a b = (λ e. by-tests (eqb (judgeReply T .refusal) accepted) (fitsIn (judgeReply T .total) l) refl e, λ e. ap (λ x. back x) e ∙ given)
+  where
+    by-tests : (x y : Bool) → eqb (judgeReply T .refusal) accepted ≡ x →
+        cond x (cond y (judgeReply T) (totalled ROOM (judgeReply T .total))) (judgeReply T) ≡ r → judgeReply T ≡ r
+    by-tests true true q e = e
+    by-tests true false q e = absurd (b (sym (ap (λ (r : Reply). r .refusal) e)))
+    by-tests false y q e = e
+
+    back : Reply → Reply
+    back x = cond (eqb (x .refusal) accepted) (cond (fitsIn (x .total) l) x (totalled ROOM (x .total))) x
+
+    given : back r ≡ r
+    given = by-test (eqb (r .refusal) accepted) refl
+      where
+        by-test : (x : Bool) → eqb (r .refusal) accepted ≡ x → cond x (cond (fitsIn (r .total) l) r (totalled ROOM (r .total))) r ≡ r
+        by-test true q = absurd (a (eqb-true (r .refusal) accepted q))
+        by-test false q = refl
+
+seven-zero : _≡_ {A = ℕ} 7 0 → ⊥
+seven-zero z = omega arith
+
+seven-five : _≡_ {A = ℕ} 7 5 → ⊥
+seven-five z = omega arith
+
+two-zero : _≡_ {A = ℕ} 2 0 → ⊥
+two-zero z = omega arith
+
+two-five : _≡_ {A = ℕ} 2 5 → ⊥
+two-five z = omega arith
+
+five-zero : _≡_ {A = ℕ} 5 0 → ⊥
+five-zero z = omega arith
+
+-- ---- MARKUP and TREE
+pub markup-first : (T : List ℕ) (l : Lent) (i : ℕ) → (readReply T l ≡ refused MARKUP i) ↔ Broken T i
+markup-first T l i =
+    let j = judged T l (refused MARKUP i) seven-zero seven-five in (
+      λ e. let m = markup-means T i (j .0 e) in record { short = m .short; breaks = m .breaks },
+      λ b. j .1 (markup-given T i (record { short = b .short; breaks = b .breaks })),
+    )
+
+pub tree-first : (T : List ℕ) (l : Lent) (v : ℕ) → (readReply T l ≡ refused TREE v) ↔ Overrun T v
+tree-first T l v =
+    let j = judged T l (refused TREE v) two-zero two-five in (
+      λ e. let m = tree-means T v (j .0 e) in record { short = m .short; over = m .over },
+      λ b. j .1 (tree-given T v (record { short = b .short; over = b .over })),
+    )
+
+-- ---- acceptance
+-- The judge accepts too, and there is room.
+record Both (T : List ℕ) (l : Lent) (n : ℕ) : Type 0 where
+  judge : judgeReply T ≡ totalled accepted n
+  room : fitsIn n l ≡ true
+
+both-of : (T : List ℕ) (l : Lent) (n : ℕ) → readReply T l ≡ totalled accepted n → Both T l n
+unfolding readReply
+both-of T l n e = by-tests (eqb (judgeReply T .refusal) accepted) (fitsIn (judgeReply T .total) l) refl refl e
+  where
+    by-tests : (x y : Bool) → eqb (judgeReply T .refusal) accepted ≡ x → fitsIn (judgeReply T .total) l ≡ y →
+        cond x (cond y (judgeReply T) (totalled ROOM (judgeReply T .total))) (judgeReply T) ≡ totalled accepted n → Both T l n
+    by-tests true true q f e = record { judge = e; room = sym (ap (λ (r : Reply). fitsIn (r .total) l) e) ∙ f }
+    by-tests true false q f e = absurd (five-zero (ap (λ (r : Reply). r .refusal) e))
+    by-tests false y q f e = absurd (eqb-false (judgeReply T .refusal) accepted q (ap (λ (r : Reply). r .refusal) e))
+
+of-both : (T : List ℕ) (l : Lent) (n : ℕ) → Both T l n → readReply T l ≡ totalled accepted n
+unfolding readReply
+of-both T l n b = ap (λ x. cond (eqb (x .refusal) accepted) (cond (fitsIn (x .total) l) x (totalled ROOM (x .total))) x) (b .judge) ∙ ap (λ y. cond y (totalled accepted n) (totalled ROOM n)) (b .room)
+
+kept-over : (r : Reply) (n : ℕ) (new old : List ℕ) → r ≡ totalled accepted n → keptOr r new old ≡ over new old
+unfolding keptOr
+kept-over r n new old e = ap (λ (r : Reply). cond (eqb (r .refusal) accepted) (over new old) old) e
+
+-- Whatever fits the contract and says that it is accepted.
+pub profile-accepted : (T : List ℕ) (l : Lent) (r : Reply) (k : Lent) → Reads T l r k → (n : ℕ) → (r ≡ totalled accepted n) ↔ Taken T l n k
+profile-accepted T l r k w n = (taken, given)
+  where
+    taken : r ≡ totalled accepted n → Taken T l n k
+    taken e =
+        record {
+          short = kept .short;
+          fits = b .room;
+          whole = kept .kept .whole;
+          rows = rows;
+        }
+      where
+        b : Both T l n
+        b = both-of T l n (sym (w .reply) ∙ e)
+
+        kept : Kept T n
+        kept = accepted-means T n (b .judge)
+
+        rows : (d : Document) → text d ≡ T → Rows d l k n
+        rows d q =
+            record {
+              nodes = ap length (kept .kept .nodes d q) ∙ sym (kept .total);
+              clear = ap (λ ns. firstOver maxLevel maxNodes 0 (keysOf ns)) (kept .kept .nodes d q) ∙ kept .kept .clear;
+              parents = w .parents ∙ kept-over r n (parentsOf (treeOf T)) (l .parents) e ∙ ap (λ ns. over (parentsOf ns) (l .parents)) tree-is;
+              tags = w .tags ∙ kept-over r n (tagsIn (treeOf T)) (l .tags) e ∙ ap (λ ns. over (tagsIn ns) (l .tags)) tree-is;
+              firsts = w .firsts ∙ kept-over r n (firstsOf (treeOf T)) (l .firsts) e ∙ ap (λ ns. over (firstsOf ns) (l .firsts)) tree-is;
+              lasts = w .lasts ∙ kept-over r n (lastsOf (treeOf T)) (l .lasts) e ∙ ap (λ ns. over (lastsOf ns) (l .lasts)) tree-is;
+              work =
+                  w .work ∙ ap (λ (r : Reply). cond (eqb (r .refusal) accepted) (zeroed (3 * length (treeOf T)) (l .work)) (l .work)) e ∙
+                  ap (λ i. zeroed (3 * i) (l .work)) (ap length (tree-is ∙ kept .kept .nodes d q) ∙ sym (kept .total));
+            }
+          where
+            tree-is : treeOf T ≡ tree d
+            tree-is = ap treeOf (sym q) ∙ tree-read d
+
+    given : Taken T l n k → r ≡ totalled accepted n
+    given t =
+        let d = t .whole .document in
+        let m = t .rows d (t .whole .is) in
+        w .reply ∙
+        of-both T l n
+        (record {
+          judge = accepted-given T n (record {
+            short = t .short;
+            nodes = tree d;
+            kept = record {
+              whole = t .whole;
+              nodes = λ d′ q. sym (tree-read d′) ∙ ap treeOf (q ∙ sym (t .whole .is)) ∙ tree-read d;
+              clear = m .clear;
+            };
+            total = sym (m .nodes);
+          });
+          room = t .fits;
+        })

@@ -1,0 +1,4 @@
+pub mod Lawful
+pub mod Pieces
+pub mod Reading
+pub mod Calls

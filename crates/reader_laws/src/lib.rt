@@ -1,0 +1,1 @@
+// What the reader of XML promises as a whole: theorems alone.
