@@ -62,10 +62,13 @@ pub const LIST: u32 = 3;
 pub const COUNT: u32 = 4;
 pub const ROOM: u32 = 5;
 pub const INPUT: u32 = 6;
+pub const MARKUP: u32 = 7;
 
 /// The name of a refusal number.
 pub fn refusal_name(number: u32) -> &'static str {
-    ["accepted", "SIZE", "TREE", "LIST", "COUNT", "ROOM", "INPUT"][number as usize]
+    [
+        "accepted", "SIZE", "TREE", "LIST", "COUNT", "ROOM", "INPUT", "MARKUP",
+    ][number as usize]
 }
 
 #[derive(Clone, Copy, PartialEq, Eq, Debug)]

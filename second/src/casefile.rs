@@ -1,21 +1,39 @@
 //! The case file and the line that says what a case must give.
 //!
-//! A case is a row of little-endian numbers of 32 bits: the magic number, the
-//! search (0 check, 1 elca, 2 slca, 3 valid), p, q, the lengths of parents,
-//! tags, ends, occurrences, counts, work, out and own, then their contents in
-//! the same order. A file is cases one after the other.
+//! A case is a row of little-endian numbers of 32 bits. Of a search: its magic
+//! number, the search (0 check, 1 elca, 2 slca, 3 valid), p, q, the lengths of
+//! parents, tags, ends, occurrences, counts, work, out and own, then their
+//! contents in the same order. Of the reader: its magic number, the lengths of
+//! text, parents, tags, firsts, lasts and work, then their contents, the text
+//! with up to three bytes of 0 behind it. A file is cases one after the other.
 
 use crate::call::{After, Call, Search};
+use crate::judge;
+use crate::xml;
+use crate::xml::call::{Read as ReadAfter, Reading};
+use crate::xml::seen::{characters, seen, Seen};
 use std::io::{self, Read, Write};
 
 pub const MAGIC: u32 = 0x5351_4C43;
+pub const READING: u32 = 0x5351_4C52;
+
+/// A case of either kind.
+#[derive(Clone, PartialEq, Eq, Debug)]
+pub enum Case {
+    Search(Call),
+    Reading(Reading),
+}
 
 fn bytes(numbers: &[u32]) -> Vec<u8> {
     numbers.iter().flat_map(|number| number.to_le_bytes()).collect()
 }
 
-/// Writes one case.
-pub fn write(sink: &mut impl Write, call: &Call) -> io::Result<()> {
+/// The zeros behind a text.
+fn padding(length: usize) -> usize {
+    (4 - length % 4) % 4
+}
+
+fn write_search(sink: &mut impl Write, call: &Call) -> io::Result<()> {
     let slices = [
         &call.parents,
         &call.tags,
@@ -36,40 +54,55 @@ pub fn write(sink: &mut impl Write, call: &Call) -> io::Result<()> {
     Ok(())
 }
 
+fn write_reading(sink: &mut impl Write, call: &Reading) -> io::Result<()> {
+    let slices = [&call.parents, &call.tags, &call.firsts, &call.lasts, &call.work];
+    let mut head = vec![READING, call.text.len() as u32];
+    head.extend(slices.iter().map(|slice| slice.len() as u32));
+    sink.write_all(&bytes(&head))?;
+    sink.write_all(&call.text)?;
+    sink.write_all(&[0; 3][..padding(call.text.len())])?;
+    for slice in slices {
+        sink.write_all(&bytes(slice))?;
+    }
+    Ok(())
+}
+
+/// Writes one case.
+pub fn write(sink: &mut impl Write, case: &Case) -> io::Result<()> {
+    match case {
+        Case::Search(call) => write_search(sink, call),
+        Case::Reading(call) => write_reading(sink, call),
+    }
+}
+
 fn broken(what: &str) -> io::Error {
     io::Error::new(io::ErrorKind::InvalidData, what.to_string())
 }
 
-/// Reads so many numbers. A lying length costs no memory.
-fn read_numbers(source: &mut impl Read, length: u32) -> io::Result<Vec<u32>> {
-    let wanted = u64::from(length) * 4;
+/// Reads so many bytes. A lying length costs no memory.
+fn read_bytes(source: &mut impl Read, length: u64) -> io::Result<Vec<u8>> {
     let mut raw = Vec::new();
-    source.take(wanted).read_to_end(&mut raw)?;
-    if raw.len() as u64 != wanted {
+    source.take(length).read_to_end(&mut raw)?;
+    if raw.len() as u64 != length {
         return Err(broken("the file ends inside a case"));
     }
-    Ok(raw
+    Ok(raw)
+}
+
+fn read_numbers(source: &mut impl Read, length: u32) -> io::Result<Vec<u32>> {
+    Ok(read_bytes(source, u64::from(length) * 4)?
         .chunks_exact(4)
         .map(|four| u32::from_le_bytes([four[0], four[1], four[2], four[3]]))
         .collect())
 }
 
-/// Reads the next case, or nothing at the end of the file.
-pub fn read(source: &mut impl Read) -> io::Result<Option<Call>> {
-    let mut first = Vec::new();
-    source.take(4).read_to_end(&mut first)?;
-    if first.is_empty() {
-        return Ok(None);
-    }
-    if first != MAGIC.to_le_bytes() {
-        return Err(broken("a case does not start with the magic number"));
-    }
+fn read_search(source: &mut impl Read) -> io::Result<Call> {
     let head = read_numbers(source, 11)?;
     let search = *Search::ALL
         .get(head[0] as usize)
         .ok_or_else(|| broken("a case names an unknown search"))?;
     let mut slice = |i: usize| read_numbers(source, head[3 + i]);
-    Ok(Some(Call {
+    Ok(Call {
         search,
         p: head[1],
         q: head[2],
@@ -81,16 +114,51 @@ pub fn read(source: &mut impl Read) -> io::Result<Option<Call>> {
         work: slice(5)?,
         out: slice(6)?,
         own: slice(7)?,
-    }))
+    })
 }
 
-/// 64-bit FNV-1a over the numbers' little-endian bytes.
-pub fn fnv1a(numbers: &[u32]) -> u64 {
+fn read_reading(source: &mut impl Read) -> io::Result<Reading> {
+    let head = read_numbers(source, 6)?;
+    let text = read_bytes(source, u64::from(head[0]))?;
+    read_bytes(source, padding(text.len()) as u64)?;
+    let mut slice = |i: usize| read_numbers(source, head[i]);
+    Ok(Reading {
+        text,
+        parents: slice(1)?,
+        tags: slice(2)?,
+        firsts: slice(3)?,
+        lasts: slice(4)?,
+        work: slice(5)?,
+    })
+}
+
+/// Reads the next case, or nothing at the end of the file.
+pub fn read(source: &mut impl Read) -> io::Result<Option<Case>> {
+    let mut first = Vec::new();
+    source.take(4).read_to_end(&mut first)?;
+    if first.is_empty() {
+        Ok(None)
+    } else if first == MAGIC.to_le_bytes() {
+        Ok(Some(Case::Search(read_search(source)?)))
+    } else if first == READING.to_le_bytes() {
+        Ok(Some(Case::Reading(read_reading(source)?)))
+    } else {
+        Err(broken("a case does not start with a magic number"))
+    }
+}
+
+/// 64-bit FNV-1a.
+pub fn fnv1a_bytes(bytes: &[u8]) -> u64 {
     let mut hash: u64 = 14_695_981_039_346_656_037;
-    for byte in bytes(numbers) {
+    for &byte in bytes {
         hash = (hash ^ u64::from(byte)).wrapping_mul(1_099_511_628_211);
     }
     hash
+}
+
+/// The same over the numbers' little-endian bytes.
+pub fn fnv1a(numbers: &[u32]) -> u64 {
+    fnv1a_bytes(&bytes(numbers))
 }
 
 fn print(numbers: &[u32]) -> String {
@@ -109,4 +177,54 @@ pub fn line(index: usize, search: Search, after: &After) -> String {
         print(&after.out),
         print(&after.own),
     )
+}
+
+/// `INDEX read refusal place total P T F L W`, without the line end.
+pub fn reading_line(index: usize, after: &ReadAfter) -> String {
+    format!(
+        "{index} read {} {} {} {} {} {} {} {}",
+        after.reply.refusal,
+        after.reply.place,
+        after.reply.total,
+        print(&after.parents),
+        print(&after.tags),
+        print(&after.firsts),
+        print(&after.lasts),
+        print(&after.work),
+    )
+}
+
+/// The line of a case.
+pub fn expected(index: usize, case: &Case) -> String {
+    match case {
+        Case::Search(call) => line(index, call.search, &judge::judge(call)),
+        Case::Reading(call) => reading_line(index, &xml::judge::judge(call)),
+    }
+}
+
+/// What a parser of XML must see in a text: `INDEX broken`, or `INDEX whole n`
+/// and then for each node `NODE PARENT FIRST LAST element N` or `.. data D`, with
+/// its name or its characters as their length and hash. None where XML and the
+/// profile may differ.
+pub fn seen_lines(index: usize, text: &[u8]) -> Option<String> {
+    let nodes = match seen(text)? {
+        Seen::Broken => return Some(format!("{index} broken\n")),
+        Seen::Whole(nodes) => nodes,
+    };
+    let mut lines = format!("{index} whole {}\n", nodes.len());
+    for (number, node) in nodes.iter().enumerate() {
+        let (kind, bytes) = match &node.name {
+            Some(name) => ("element", text[name.clone()].to_vec()),
+            None => ("data", characters(text, node)),
+        };
+        lines += &format!(
+            "{number} {} {} {} {kind} {}:{:016x}\n",
+            node.parent,
+            node.first,
+            node.last,
+            bytes.len(),
+            fnv1a_bytes(&bytes)
+        );
+    }
+    Some(lines)
 }

@@ -1,8 +1,9 @@
-//! A second program for the tree search, written from document 01 and request
-//! Q-1 of document 02 alone.
+//! A second program for the tree search and the XML reader, written from
+//! document 01 and requests of document 02 alone.
 //!
 //! Each file renders some words of them. Where a literal reading costs too much
-//! on large trees, a climbing form stands beside it; see `both`.
+//! on large trees, a climbing form stands beside it; see `both`. For texts see
+//! `xml`.
 
 pub mod both;
 pub mod call;
@@ -21,3 +22,4 @@ pub mod slca;
 pub mod table;
 pub mod tree;
 pub mod valid;
+pub mod xml;

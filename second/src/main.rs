@@ -1,7 +1,9 @@
 //! The commands. See the README for what they read and write.
 
-use second::gen::{large, small, tables};
-use second::{casefile, judge, show, table};
+use second::casefile::Case;
+use second::gen::{large, large_texts, near, reading, small, tables};
+use second::xml::seen::seen;
+use second::{casefile, show, table};
 use std::fs::File;
 use std::io::{self, BufReader, BufWriter, Read, Write};
 use std::path::Path;
@@ -12,9 +14,14 @@ usage:
   second table                   table from standard input, answers to standard output
   second cases SEED COUNT        COUNT small cases to standard output
   second large SEED              the large cases to standard output
+  second texts SEED COUNT        COUNT small cases of the reader to standard output
+  second near-texts              every text next to some small ones, as cases of the reader
+  second large-texts SEED        the large cases of the reader to standard output
   second expect FILE             one line for each case of FILE (- is standard input)
   second tables SEED COUNT DIR   COUNT table inputs with expected outputs into DIR
   second show FILE N             case N of FILE, from 0, in readable form
+  second plain FILE              the cases of FILE whose text XML judges as the profile does
+  second seen FILE               what a parser of XML must see in the texts of such cases
 ";
 
 /// What can go wrong: the words are not a command, or reading or writing fails.
@@ -55,31 +62,53 @@ fn print_table() -> io::Result<()> {
     sink.flush()
 }
 
-fn write_cases(seed: u64, count: u64) -> io::Result<()> {
+fn write_cases(cases: impl Iterator<Item = Case>) -> io::Result<()> {
     let mut sink = sink();
-    for case in 0..count {
-        casefile::write(&mut sink, &small::small(seed, case).0)?;
+    for case in cases {
+        casefile::write(&mut sink, &case)?;
     }
     sink.flush()
 }
 
-fn write_large(seed: u64) -> io::Result<()> {
-    let mut sink = sink();
-    for case in 0..large::how_many() {
-        casefile::write(&mut sink, &large::large(seed, case).0)?;
+/// Does something for each case of a file, with its number.
+fn each_case(file: &str, mut each: impl FnMut(usize, Case) -> io::Result<()>) -> io::Result<()> {
+    let mut source = source(file)?;
+    let mut index = 0;
+    while let Some(case) = casefile::read(&mut source)? {
+        each(index, case)?;
+        index += 1;
     }
-    sink.flush()
+    Ok(())
 }
 
 fn print_expected(file: &str) -> io::Result<()> {
-    let mut source = source(file)?;
     let mut sink = sink();
-    let mut index = 0;
-    while let Some(call) = casefile::read(&mut source)? {
-        let after = judge::judge(&call);
-        writeln!(sink, "{}", casefile::line(index, call.search, &after))?;
-        index += 1;
-    }
+    each_case(file, |index, case| {
+        writeln!(sink, "{}", casefile::expected(index, &case))
+    })?;
+    sink.flush()
+}
+
+/// The cases of the reader of which XML itself tells what the profile tells.
+fn write_plain(file: &str) -> io::Result<()> {
+    let mut sink = sink();
+    each_case(file, |_, case| match &case {
+        Case::Reading(call) if seen(&call.text).is_some() => casefile::write(&mut sink, &case),
+        _ => Ok(()),
+    })?;
+    sink.flush()
+}
+
+fn print_seen(file: &str) -> io::Result<()> {
+    let mut sink = sink();
+    each_case(file, |index, case| {
+        let lines = match &case {
+            Case::Reading(call) => casefile::seen_lines(index, &call.text),
+            Case::Search(_) => None,
+        };
+        let lines = lines.ok_or_else(|| other(format!("case {index} is not plain")))?;
+        sink.write_all(lines.as_bytes())
+    })?;
     sink.flush()
 }
 
@@ -95,31 +124,51 @@ fn write_tables(seed: u64, count: u64, folder: &str) -> io::Result<()> {
     Ok(())
 }
 
+fn other(what: String) -> io::Error {
+    io::Error::new(io::ErrorKind::Other, what)
+}
+
 fn print_case(file: &str, number: u64) -> io::Result<()> {
     let mut source = source(file)?;
     let mut index = 0;
-    while let Some(call) = casefile::read(&mut source)? {
+    while let Some(case) = casefile::read(&mut source)? {
         if index == number {
             let mut sink = sink();
-            sink.write_all(show::show(&call).as_bytes())?;
+            sink.write_all(show::show(&case).as_bytes())?;
             return sink.flush();
         }
         index += 1;
     }
-    Err(io::Error::new(
-        io::ErrorKind::Other,
-        format!("the file has {index} cases only"),
-    ))
+    Err(other(format!("the file has {index} cases only")))
 }
 
 fn run(words: &[&str]) -> Result<(), Trouble> {
     match words {
         ["table"] => print_table()?,
-        ["cases", seed, count] => write_cases(number(seed)?, number(count)?)?,
-        ["large", seed] => write_large(number(seed)?)?,
+        ["cases", seed, count] => {
+            let seed = number(seed)?;
+            write_cases((0..number(count)?).map(|case| Case::Search(small::small(seed, case).0)))?
+        }
+        ["large", seed] => {
+            let seed = number(seed)?;
+            write_cases((0..large::how_many()).map(|case| Case::Search(large::large(seed, case).0)))?
+        }
+        ["texts", seed, count] => {
+            let seed = number(seed)?;
+            write_cases((0..number(count)?).map(|case| Case::Reading(reading::small(seed, case).0)))?
+        }
+        ["near-texts"] => write_cases(near::calls().map(Case::Reading))?,
+        ["large-texts", seed] => {
+            let seed = number(seed)?;
+            write_cases(
+                (0..large_texts::how_many()).map(|case| Case::Reading(large_texts::large(seed, case).0)),
+            )?
+        }
         ["expect", file] => print_expected(file)?,
         ["tables", seed, count, folder] => write_tables(number(seed)?, number(count)?, folder)?,
         ["show", file, case] => print_case(file, number(case)?)?,
+        ["plain", file] => write_plain(file)?,
+        ["seen", file] => print_seen(file)?,
         _ => return Err(Trouble::Usage),
     }
     Ok(())

@@ -1,7 +1,10 @@
 //! A case in readable form.
 
-use crate::call::{refusal_name, Call};
+use crate::call::{refusal_name, Call, Reply};
+use crate::casefile::Case;
 use crate::judge::judge;
+use crate::xml;
+use crate::xml::call::Reading;
 use std::fmt::Write;
 
 fn row(text: &mut String, name: &str, numbers: &[u32]) {
@@ -9,9 +12,28 @@ fn row(text: &mut String, name: &str, numbers: &[u32]) {
     writeln!(text, "{name} ({}): {}", numbers.len(), list.join(",")).unwrap();
 }
 
-/// Everything lent, and what the call must give. Lists and counts are parted
-/// by word as far as their lengths allow.
-pub fn show(call: &Call) -> String {
+fn reply_row(text: &mut String, reply: Reply) {
+    writeln!(
+        text,
+        "reply: refusal {} ({})  place {}  total {}",
+        reply.refusal,
+        refusal_name(reply.refusal),
+        reply.place,
+        reply.total
+    )
+    .unwrap();
+}
+
+/// Everything lent, and what the call must give.
+pub fn show(case: &Case) -> String {
+    match case {
+        Case::Search(call) => show_search(call),
+        Case::Reading(call) => show_reading(call),
+    }
+}
+
+/// Lists and counts are parted by word as far as their lengths allow.
+fn show_search(call: &Call) -> String {
     let mut text = String::new();
     writeln!(
         text,
@@ -43,18 +65,31 @@ pub fn show(call: &Call) -> String {
     row(&mut text, "out", &call.out);
     row(&mut text, "own", &call.own);
     let after = judge(call);
-    let reply = after.reply;
-    writeln!(
-        text,
-        "reply: refusal {} ({})  place {}  total {}",
-        reply.refusal,
-        refusal_name(reply.refusal),
-        reply.place,
-        reply.total
-    )
-    .unwrap();
+    reply_row(&mut text, after.reply);
     row(&mut text, "work after", &after.work);
     row(&mut text, "out after", &after.out);
     row(&mut text, "own after", &after.own);
+    text
+}
+
+/// The text with its places, sixteen bytes a line, as C would quote them.
+fn show_reading(call: &Reading) -> String {
+    let mut text = String::new();
+    writeln!(text, "read  text {} bytes", call.text.len()).unwrap();
+    for (line, bytes) in call.text.chunks(16).enumerate() {
+        writeln!(text, "{:9} {}", line * 16, bytes.escape_ascii()).unwrap();
+    }
+    row(&mut text, "parents", &call.parents);
+    row(&mut text, "tags", &call.tags);
+    row(&mut text, "firsts", &call.firsts);
+    row(&mut text, "lasts", &call.lasts);
+    row(&mut text, "work", &call.work);
+    let after = xml::judge::judge(call);
+    reply_row(&mut text, after.reply);
+    row(&mut text, "parents after", &after.parents);
+    row(&mut text, "tags after", &after.tags);
+    row(&mut text, "firsts after", &after.firsts);
+    row(&mut text, "lasts after", &after.lasts);
+    row(&mut text, "work after", &after.work);
     text
 }

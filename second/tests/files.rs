@@ -3,7 +3,7 @@
 mod common;
 
 use second::call::{Search, ACCEPTED, COUNT, LIST, ROOM, SIZE, TREE};
-use second::casefile::{fnv1a, line, read, write};
+use second::casefile::{fnv1a, line, read, write, Case};
 use second::gen::small::small;
 use second::gen::{large, tables};
 use second::judge::judge;
@@ -12,7 +12,7 @@ use std::collections::BTreeSet;
 
 #[test]
 fn cases_come_back_as_written() {
-    let calls: Vec<_> = (0..500).map(|number| small(5, number).0).collect();
+    let calls: Vec<_> = (0..500).map(|number| Case::Search(small(5, number).0)).collect();
     let mut file = Vec::new();
     for call in &calls {
         write(&mut file, call).unwrap();
@@ -30,7 +30,7 @@ fn the_bytes_of_a_case() {
     let mut call = common::lawful(Search::Elca, &[0, 0], &[1, 0], &[&[1]], &[]);
     call.work.truncate(6);
     let mut file = Vec::new();
-    write(&mut file, &call).unwrap();
+    write(&mut file, &Case::Search(call)).unwrap();
     let expected: Vec<u32> = vec![
         0x5351_4C43,
         1,
@@ -71,7 +71,7 @@ fn the_bytes_of_a_case() {
 #[test]
 fn broken_files_are_told() {
     let mut file = Vec::new();
-    write(&mut file, &small(6, 0).0).unwrap();
+    write(&mut file, &Case::Search(small(6, 0).0)).unwrap();
     for length in 1..file.len() {
         assert!(read(&mut &file[..length]).is_err());
     }

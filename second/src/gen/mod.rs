@@ -2,9 +2,15 @@
 
 pub mod damage;
 pub mod large;
+pub mod large_texts;
 pub mod lend;
+pub mod near;
+pub mod pen;
+pub mod reading;
 pub mod rng;
 pub mod shape;
 pub mod small;
+pub mod spoil;
 pub mod tables;
+pub mod texts;
 pub mod words;

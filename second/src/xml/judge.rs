@@ -1,0 +1,84 @@
+//! The reply of the reader and its final buffers, for every input.
+//!
+//! Q-2: "Refusals, all leaving what is lent unchanged: SIZE for text above
+//! 16,777,216 bytes; then whichever comes first: 7 MARKUP [...] or TREE [...];
+//! last ROOM with the nodes needed." Work needs three entries a node, which an
+//! accepted call leaves as 0.
+
+use super::call::{Read, Reading};
+use super::node::{Node, Outcome};
+use super::read::read;
+use crate::call::{Reply, ACCEPTED, MARKUP, ROOM, SIZE, TREE};
+use std::collections::BTreeMap;
+
+/// The longest text.
+pub const BYTES: usize = 16_777_216;
+
+/// For each node 0 if it is data, else the number of its name: from 1, in order
+/// of first appearance.
+pub fn tags(text: &[u8], nodes: &[Node]) -> Vec<u32> {
+    let mut numbers = BTreeMap::new();
+    nodes
+        .iter()
+        .map(|node| match &node.name {
+            None => 0,
+            Some(name) => {
+                let fresh = numbers.len() as u32 + 1;
+                *numbers.entry(&text[name.clone()]).or_insert(fresh)
+            }
+        })
+        .collect()
+}
+
+fn column(nodes: &[Node], of: impl Fn(&Node) -> usize) -> Vec<u32> {
+    nodes.iter().map(|node| of(node) as u32).collect()
+}
+
+pub fn judge(call: &Reading) -> Read {
+    let mut after = Read {
+        reply: Reply {
+            refusal: SIZE,
+            place: 0,
+            total: 0,
+        },
+        parents: call.parents.clone(),
+        tags: call.tags.clone(),
+        firsts: call.firsts.clone(),
+        lasts: call.lasts.clone(),
+        work: call.work.clone(),
+    };
+    if call.text.len() > BYTES {
+        return after;
+    }
+    let nodes = match read(&call.text) {
+        Outcome::Markup(place) => {
+            after.reply.refusal = MARKUP;
+            after.reply.place = place as u32;
+            return after;
+        }
+        Outcome::Beyond(number) => {
+            after.reply.refusal = TREE;
+            after.reply.place = number as u32;
+            return after;
+        }
+        Outcome::Whole(nodes) => nodes,
+    };
+    let n = nodes.len();
+    after.reply.total = n as u32;
+    let columns = [
+        (&mut after.parents, column(&nodes, |node| node.parent)),
+        (&mut after.tags, tags(&call.text, &nodes)),
+        (&mut after.firsts, column(&nodes, |node| node.first)),
+        (&mut after.lasts, column(&nodes, |node| node.last)),
+        (&mut after.work, vec![0; 3 * n]),
+    ];
+    if columns.iter().any(|(lent, column)| lent.len() < column.len()) {
+        after.reply.refusal = ROOM;
+        return after;
+    }
+    after.reply.refusal = ACCEPTED;
+    for (lent, column) in columns {
+        lent[..column.len()].copy_from_slice(&column);
+    }
+    after
+}
