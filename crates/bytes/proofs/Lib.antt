@@ -1,3 +1,3 @@
 pub mod Laws
-mod Packed
+mod Table
 mod Running

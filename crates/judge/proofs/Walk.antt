@@ -28,7 +28,7 @@ use Rattle.judge.specs.Inner.{placeOf, tallyIn, turnOf, Holds, TurnPre, 
 use Rattle.judge.specs.declared.turns.State.{State}
 use Rattle.judge.specs.declared.turns.Turn.{Turn}
 
-abbrev state : ℕ → ℕ → Bool → Bool → State
+abbrev pub state : ℕ → ℕ → Bool → Bool → State
 state d m b r = record { depth = d; met = m; solid = b; rooted = r }
 
 pub record Walk (T S Z : List ℕ) (at d m : ℕ) (b r : Bool) : Type 0 where

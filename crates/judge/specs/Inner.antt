@@ -4,6 +4,7 @@
 --   endedWith, brokenAt, overAt, goesOn   == the four kinds of a turn
 --   dataTurn, tagTurn, closeTurn          == the turns of the kinds of pieces, in numbers
 --   Holds T s S Z        == the rows and the state are in order: within their bounds, the names within the text
+--   Bare T at d S Z r    == r is the place `at`, or that behind an end tag which stands there; Closes: the bytes of such a tag
 --   Told q T r S Z       == the turn r, with the rows then, is `profile`'s turn q
 -- Letters: T text, S Z rows of places and sizes, s state, p piece, at a place. Assumes nothing.
 use Prim.Native.Nat.{ℕ, zero, suc, _+_, _-_, _≤_, _<_}
@@ -14,6 +15,7 @@ use lib.Dec.{eqb, ltb, leb}
 use lib.ListN.{length, getD, take, drop}
 use Rattle.index.specs.Replies.{accepted, TREE}
 use Rattle.index.specs.declared.Reply as index
+use Rattle.profile.specs.Bytes.{'/', '<', '>'}
 use Rattle.profile.specs.Spans.{common}
 use Rattle.profile.specs.Machine.{Place, before, after, inside}
 use Rattle.profile.specs.Check.{Tally, Reply}
@@ -122,6 +124,26 @@ pub record ClosePre (T : List ℕ) (at : ℕ) (p : Piece) (s : State) (S Z : Lis
   pub holds : Holds T s S Z
   pub place : at + 2 ≤ length T
   pub fits : p .end ≤ longest
+
+pub record BarePre (T : List ℕ) (at d : ℕ) (S Z : List ℕ) : Type 0 where
+  pub short : length T ≤ longest
+  pub place : at ≤ length T
+  pub deep : d ≤ 64
+  pub within : (k : ℕ) → k < d → getD S k 0 + getD Z k 0 ≤ length T
+
+-- The bytes of an end tag, without white space, of the element that was opened last; e is the place behind it.
+pub record Closes (T : List ℕ) (at d : ℕ) (S Z : List ℕ) (e : ℕ) : Type 0 where
+  pub some : d ≡ 0 → ⊥
+  pub less : getD T at 0 ≡ '<'
+  pub slash : getD T (at + 1) 0 ≡ '/'
+  pub name : common (nameIn T S Z (d - 1)) (drop (at + 2) T) ≡ getD Z (d - 1) 0
+  pub greater : getD T (at + 2 + getD Z (d - 1) 0) 0 ≡ '>'
+  pub fits : at + 2 + getD Z (d - 1) 0 < length T
+  pub end : e ≡ at + 2 + getD Z (d - 1) 0 + 1
+
+-- Where r is not the place itself, such a tag stands there.
+pub record Bare (T : List ℕ) (at d : ℕ) (S Z : List ℕ) (r : ℕ) : Type 0 where
+  pub closes : at < r → Closes T at d S Z r
 
 pub record TurnPre (T : List ℕ) (at : ℕ) (p : Piece) (s : State) (S Z : List ℕ) : Type 0 where
   pub holds : Holds T s S Z

@@ -31,6 +31,13 @@ pub fn judge(text: &[u8]) -> index::Reply
     let mut solid = false;
     let mut rooted = false;
     loop {
+        let closed = turns::bare_close(text, at, depth, &starts, &sizes);
+        if at < closed {
+            at = closed;
+            depth -= 1;
+            solid = false;
+            continue;
+        }
         let p = markup::piece_at(text, at);
         let next = p.end;
         let s = turns::State {

@@ -2,7 +2,7 @@
 // The names of the open elements are kept as places and sizes in two rows of 64: an element of level 65 is refused before it is opened.
 ghost use mathlib.Core.Path.{_≡_};
 ghost use Prim.Native.Nat.{_≤_};
-ghost use Rattle.judge.specs.Inner.{endedWith, brokenAt, overAt, goesOn, isFull, isClosed, passed, spaceTurn, DataPre, dataTurn, TagPre, tagTurn, ClosePre, closeTurn, TurnPre, Told, turnOf};
+ghost use Rattle.judge.specs.Inner.{endedWith, brokenAt, overAt, goesOn, isFull, isClosed, passed, spaceTurn, DataPre, dataTurn, TagPre, tagTurn, ClosePre, closeTurn, BarePre, Bare, TurnPre, Told, turnOf};
 
 // Between two pieces: the open elements, the nodes met, whether the data since the last tag makes a node, and whether the root was met.
 pub(crate) struct State {
@@ -207,6 +207,44 @@ fn close_turn(
         return broken(p.end);
     }
     goes(top, s.met, false, s.rooted)
+}
+
+// The place behind the end tag of the element that was opened last, where it stands at a place without white space; else the place itself. Nearly all end tags are such,
+// and one comparison with the name that is open finds them right.
+pub(crate) fn bare_close(
+    text: &[u8],
+    at: usize,
+    depth: usize,
+    starts: &[usize; 64],
+    sizes: &[usize; 64],
+) -> usize
+    requires { ⌜ BarePre (now text) «at» depth (now starts) (now sizes) ⌝ }
+    ensures { λ r. ⌜ Bare (now (text .entry)) «at» depth (now (starts .entry)) (now (sizes .entry)) r ⌝ }
+{
+    if depth == 0 {
+        return at;
+    }
+    let top = depth - 1;
+    let from = starts[top];
+    let size = sizes[top];
+    let name = at + 2;
+    let end = name + size;
+    if text.len() <= end {
+        return at;
+    }
+    if text[at] != b'<' {
+        return at;
+    }
+    if text[at + 1] != b'/' {
+        return at;
+    }
+    if text[end] != b'>' {
+        return at;
+    }
+    if bytes::common(&text[from..from + size], text, name) != size {
+        return at;
+    }
+    end + 1
 }
 
 // The turn that the piece at a place gives.

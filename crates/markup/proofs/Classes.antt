@@ -1,8 +1,8 @@
 -- The rule of the classes holds of every number: past the table the class is 0, and no production takes the number. So what is said of runs of classes
 -- asks nothing of a row. Within the table the rule is that of `profile`, proofs/Classes. Assumes nothing.
 --   rule                     the rule at any number
---   among-one, among-part    a range of one class, and a range within another
 --   span-rule                two tests that agree have one span
+--   white-plain              white space is plain
 --   skip-stops               the byte after a run is not of its kind
 use Prim.Native.Nat.{ℕ, suc, _+_, _≤_, _<_}
 use mathlib.Core.Path.{_≡_, refl, sym, ap, ap₂, _∙_}
@@ -16,11 +16,11 @@ use lib.Seq.{getD-drop}
 use borrow.Author.Tests.{eq-eqb, ne-eqb, le-leb, lt-leb, eqb-true, leb-true, ltb-true, ltb-false}
 use Rattle.seq.proofs.Laws.Bools.{bool-cases, bool-ext, and-left, and-right}
 use Rattle.profile.specs.Bytes.{char, white, nameStart, nameChar, dataChar, plain, commented}
-use Rattle.profile.specs.Classes.{table, class, among, ClassRule}
+use Rattle.profile.specs.Classes.{table, class, within, ClassRule}
 use Rattle.profile.specs.Spans.{span}
 use Rattle.profile.proofs.Classes.{class-rule}
+use Rattle.profile.proofs.Laws.Bytes.{white-elim}
 use Rattle.profile.proofs.Laws.Spans.{span-stops}
-use Rattle.bytes.proofs.Laws.{among-in}
 
 -- ---- past the table
 module _ (x : ℕ) (l : 256 ≤ x) where
@@ -54,7 +54,7 @@ module _ (x : ℕ) (l : 256 ≤ x) where
   no-nameChar = simp (no-nameStart, other 45 (omega arith), other 46 (omega arith), over 48 (omega arith), above 57 (omega arith))
 
   past-rule : ClassRule x
-  unfolding among plain dataChar commented
+  unfolding within plain dataChar commented
   past-rule =
       record {
         of-char = rw (none, no-char);
@@ -63,9 +63,9 @@ module _ (x : ℕ) (l : 256 ≤ x) where
         of-nameChar = rw (none, no-nameChar);
         of-plain = rw (none, no-char);
         of-commented = rw (none, no-char);
+        of-bracket = rw (none, other 93 (omega arith));
         of-less = rw (none, other 60 (omega arith));
         of-ampersand = rw (none, other 38 (omega arith));
-        of-bracket = rw (none, other 93 (omega arith));
         of-greater = rw (none, other 62 (omega arith));
         of-dash = rw (none, other 45 (omega arith));
       }
@@ -73,39 +73,16 @@ module _ (x : ℕ) (l : 256 ≤ x) where
 pub rule : (x : ℕ) → ClassRule x
 rule x = ⊎-elim (λ q. class-rule x (ltb-true x 256 q)) (λ q. past-rule x (ltb-false x 256 q)) (bool-cases (ltb x 256))
 
--- ---- ranges and runs
-among-least : (low high x : ℕ) → among low high x ≡ true → low ≤ class x
-unfolding among
-among-least low high x e = leb-true low (class x) (and-left (leb low (class x)) _ e)
-
-among-most : (low high x : ℕ) → among low high x ≡ true → class x ≤ high
-unfolding among
-among-most low high x e = leb-true (class x) high (and-right (leb low (class x)) _ e)
-
+-- ---- runs
 pub span-rule : (f g : ℕ → Bool) → ((x : ℕ) → f x ≡ g x) → (t : List ℕ) → span f t ≡ span g t
 unfolding span
 span-rule f g e [] = refl
 span-rule f g e (x ∷ t) = ap₂ (λ (c : Bool) (k : ℕ). cond c (suc k) 0) (e x) (span-rule f g e t)
 
--- A range of one class.
-pub among-one : (k x : ℕ) → among k k x ≡ eqb (class x) k
-among-one k x =
-    bool-ext _ _
-    (λ e. eq-eqb (class x) k (same (among-least k k x e) (among-most k k x e)))
-    (λ e. among-in k k x (omega (arith, eqb-true (class x) k e)) (omega (arith, eqb-true (class x) k e)))
-  where
-    same : k ≤ class x → class x ≤ k → class x ≡ k
-    same a b = omega arith
-
--- A range of classes within another.
-pub among-part : (low high low′ high′ x : ℕ) → low′ ≤ low → high ≤ high′ → among low high x ≡ true → among low′ high′ x ≡ true
-among-part low high low′ high′ x a b e = among-in low′ high′ x (omega (arith, lower)) (omega (arith, upper))
-  where
-    lower : low ≤ class x
-    lower = among-least low high x e
-
-    upper : class x ≤ high
-    upper = among-most low high x e
+-- White space is plain.
+pub white-plain : (x : ℕ) → white x ≡ true → plain x ≡ true
+unfolding plain dataChar char
+white-plain = white-elim (λ x. plain x ≡ true) refl refl refl refl
 
 -- The byte after a run is not of its kind.
 pub skip-stops : (f : ℕ → Bool) (t : List ℕ) (i j : ℕ) → j ≡ i + span f (drop i t) → j < length t → f (getD t j 0) ≡ false

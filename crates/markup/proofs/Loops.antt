@@ -11,14 +11,14 @@ use lib.ListN.{length, getD, drop}
 use lib.Seq.{drop-drop}
 use borrow.Author.Tests.{ne-eqb, ltb-true, ltb-false}
 use Rattle.seq.proofs.Laws.Bools.{bool-cases, and-false-right}
-use Rattle.profile.specs.Bytes.{'&', '-', '<', '>', ']'}
-use Rattle.profile.specs.Classes.{among}
+use Rattle.profile.specs.Bytes.{'&', '-', '<', '>', ']', white}
+use Rattle.profile.specs.Classes.{within, PLAINS, COMMENTEDS, BRACKETS}
 use Rattle.profile.specs.Spans.{span}
 use Rattle.profile.specs.Machine.{Brackets, b0, b1, b2, two}
 use Rattle.profile.specs.Pieces.{stop, after, referenceStop, dataStop, closeStop, bodyStop}
 use Rattle.markup.specs.declared.Reached.{Reached}
 use Rattle.markup.specs.Inner.{reached, reachedFrom}
-use Rattle.markup.proofs.Classes.{rule, among-one, among-part, skip-stops}
+use Rattle.markup.proofs.Classes.{rule, white-plain, skip-stops}
 use Rattle.markup.proofs.Reading.{Reading, reading-start, reading-step, reading-rest, reading-stop, row-at, row-end}
 use Rattle.markup.proofs.Data.{data-run, data-end, data-less, data-other, data-greater, data-whole, data-broken, many, many-two, data-bracket, data-forgets, data-refuses}
 use Rattle.markup.proofs.Comments.{body-run, body-end, body-other, body-last, body-dash, body-close}
@@ -28,17 +28,15 @@ abbrev pub Data : List ℕ → ℕ → ℕ → Type 0
 Data t o i = Reading (dataStop b0 0) t o i
 
 module _ (t : List ℕ) (o i : ℕ) (r : Data t o i) where
-  pub data-skip : (j : ℕ) → j ≡ i + span (among 5 9) (drop i t) → Data t o j
-  data-skip j p = reading-step _ t o i r (span (among 5 9) (drop i t)) j p (data-run (among 5 9) (λ x q. rule x .of-plain ∙ q) (drop i t))
+  pub data-skip : (j : ℕ) → j ≡ i + span (within PLAINS) (drop i t) → Data t o j
+  data-skip j p = reading-step _ t o i r (span (within PLAINS) (drop i t)) j p (data-run (within PLAINS) (λ x q. rule x .of-plain ∙ q) (drop i t))
 
   pub data-ends : length t ≤ i → reached i true ≡ reachedFrom o (dataStop b0 0 (drop o t))
   data-ends l = reading-stop _ t o i r true (ap (dataStop b0 0) (row-end t i l) ∙ data-end b0)
 
 -- The white space that data begins with is plain.
-pub data-white : (t : List ℕ) (o j : ℕ) → j ≡ o + span (among 5 5) (drop o t) → Data t o j
-data-white t o j p =
-    reading-step _ t o o (reading-start _ t o) (span (among 5 5) (drop o t)) j p
-    (data-run (among 5 5) (λ x q. rule x .of-plain ∙ among-part 5 5 5 9 x (omega arith) (omega arith) q) (drop o t))
+pub data-white : (t : List ℕ) (o j : ℕ) → j ≡ o + span white (drop o t) → Data t o j
+data-white t o j p = reading-step _ t o o (reading-start _ t o) (span white (drop o t)) j p (data-run white white-plain (drop o t))
 
 module _ (t : List ℕ) (o i : ℕ) (r : Data t o i) (l : i < length t) where
   row : (x : ℕ) → getD t i 0 ≡ x → drop i t ≡ x ∷ drop (i + 1) t
@@ -47,7 +45,7 @@ module _ (t : List ℕ) (o i : ℕ) (r : Data t o i) (l : i < length t) where
   pub data-at-less : getD t i 0 ≡ '<' → reached i true ≡ reachedFrom o (dataStop b0 0 (drop o t))
   data-at-less e = reading-stop _ t o i r true (ap (dataStop b0 0) (row '<' e) ∙ data-less (drop (i + 1) t))
 
-  pub data-at-other : among 5 9 (getD t i 0) ≡ false → (getD t i 0 ≡ '<' → ⊥) → (getD t i 0 ≡ '&' → ⊥) → (getD t i 0 ≡ '>' → ⊥) → (getD t i 0 ≡ ']' → ⊥) →
+  pub data-at-other : within PLAINS (getD t i 0) ≡ false → (getD t i 0 ≡ '<' → ⊥) → (getD t i 0 ≡ '&' → ⊥) → (getD t i 0 ≡ '>' → ⊥) → (getD t i 0 ≡ ']' → ⊥) →
       reached i false ≡ reachedFrom o (dataStop b0 0 (drop o t))
   data-at-other q a b c d =
       reading-stop _ t o i r false
@@ -88,19 +86,19 @@ settles k t j a b = ⊎-elim (λ q. within (ltb-true j (length t) q)) (λ q. pas
     past l = ap (dataStop k 0) (row-end t j l) ∙ data-end k ∙ sym (data-end b0) ∙ ap (dataStop b0 0) (sym (row-end t j l))
 
 -- brackets from i on, to the place j
-module _ (t : List ℕ) (o i : ℕ) (r : Data t o i) (l : i < length t) (e : getD t i 0 ≡ ']') (j : ℕ) (p : j ≡ i + 1 + span (among 3 3) (drop (i + 1) t)) where
+module _ (t : List ℕ) (o i : ℕ) (r : Data t o i) (l : i < length t) (e : getD t i 0 ≡ ']') (j : ℕ) (p : j ≡ i + 1 + span (within BRACKETS) (drop (i + 1) t)) where
   -- how many follow the first
   more : ℕ
-  more = span (among 3 3) (drop (i + 1) t)
+  more = span (within BRACKETS) (drop (i + 1) t)
 
   passed : dataStop b0 0 (drop i t) ≡ after (suc more) (dataStop (many more b1) 0 (drop j t))
   unfolding more
   passed =
-      ap (dataStop b0 0) (row t o i r l ']' e) ∙ data-bracket (among 3 3) (λ x q. rule x .of-bracket ∙ sym (among-one 3 x) ∙ q) (drop (i + 1) t)
+      ap (dataStop b0 0) (row t o i r l ']' e) ∙ data-bracket (within BRACKETS) (λ x q. rule x .of-bracket ∙ q) (drop (i + 1) t)
       ∙ ap (λ u. after (suc more) (dataStop (many more b1) 0 u)) (drop-drop more (i + 1) t ∙ ap (λ k. drop k t) (sym p))
 
   ended : j < length t → eqb (getD t j 0) ']' ≡ false
-  ended h = rule (getD t j 0) .of-bracket ∙ sym (among-one 3 (getD t j 0)) ∙ skip-stops (among 3 3) t (i + 1) j p h
+  ended h = rule (getD t j 0) .of-bracket ∙ skip-stops (within BRACKETS) t (i + 1) j p h
 
   -- the loop goes on at j
   goes : (j < length t → (two (many more b1) && eqb (getD t j 0) '>') ≡ false) → Data t o j
@@ -141,13 +139,13 @@ abbrev pub Body : List ℕ → ℕ → ℕ → Type 0
 Body t o i = Reading (bodyStop false) t o i
 
 module _ (t : List ℕ) (o i : ℕ) (r : Body t o i) where
-  pub body-skip : (j : ℕ) → j ≡ i + span (among 1 8) (drop i t) → Body t o j
-  body-skip j p = reading-step _ t o i r (span (among 1 8) (drop i t)) j p (body-run (among 1 8) (λ x q. rule x .of-commented ∙ q) (drop i t))
+  pub body-skip : (j : ℕ) → j ≡ i + span (within COMMENTEDS) (drop i t) → Body t o j
+  body-skip j p = reading-step _ t o i r (span (within COMMENTEDS) (drop i t)) j p (body-run (within COMMENTEDS) (λ x q. rule x .of-commented ∙ q) (drop i t))
 
   pub body-ends : length t ≤ i → reached i false ≡ reachedFrom o (bodyStop false (drop o t))
   body-ends l = reading-stop _ t o i r false (ap (bodyStop false) (row-end t i l) ∙ body-end)
 
-  pub body-at-other : i < length t → among 1 8 (getD t i 0) ≡ false → (getD t i 0 ≡ '-' → ⊥) → reached i false ≡ reachedFrom o (bodyStop false (drop o t))
+  pub body-at-other : i < length t → within COMMENTEDS (getD t i 0) ≡ false → (getD t i 0 ≡ '-' → ⊥) → reached i false ≡ reachedFrom o (bodyStop false (drop o t))
   body-at-other l q a =
       reading-stop _ t o i r false
       (ap (bodyStop false) (row-at t i l) ∙ body-other (getD t i 0) (drop (i + 1) t) (rule (getD t i 0) .of-commented ∙ q) (ne-eqb _ _ a))

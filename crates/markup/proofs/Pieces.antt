@@ -14,7 +14,6 @@ use lib.ListN.{length, getD, drop}
 use lib.Seq.{drop-drop}
 use borrow.Author.Tests.{eq-eqb, ne-eqb}
 use Rattle.profile.specs.Bytes.{'!', '-', '/', '<', '>', white, nameStart}
-use Rattle.profile.specs.Classes.{among}
 use Rattle.profile.specs.Spans.{span, common}
 use Rattle.profile.specs.Machine.{b0}
 use Rattle.profile.specs.Pieces.{stop, after, dataStop, closeStop, bodyStop, commentStop, END, DATA, COMMENT, START, EMPTY, CLOSE, NONE, Piece as Piece′, piece, nameSize, tagEnd, tagPiece, closePiece, markupPiece, pieceOf}
@@ -22,7 +21,6 @@ use Rattle.markup.specs.declared.Piece.{Piece}
 use Rattle.markup.specs.declared.Reached.{Reached}
 use Rattle.markup.specs.Pieces.{pieceFrom, pieceAt}
 use Rattle.markup.specs.Inner.{reachedFrom, namedPiece, commentPiece}
-use Rattle.markup.proofs.Classes.{rule, span-rule}
 use Rattle.markup.proofs.Reading.{row-at, row-end}
 use Rattle.markup.proofs.Loops.{data-white}
 use Rattle.markup.proofs.Tags.{Named}
@@ -135,16 +133,13 @@ unfolding pieceOf
 data-of x u h = rw h
 
 -- data, its white space skipped
-pub piece-data : (t : List ℕ) (o m : ℕ) → o < length t → (getD t o 0 ≡ '<' → ⊥) → m ≡ o + span (among 5 5) (drop o t) →
+pub piece-data : (t : List ℕ) (o m : ℕ) → o < length t → (getD t o 0 ≡ '<' → ⊥) → m ≡ o + span white (drop o t) →
     (z : Reached) → z ≡ reachedFrom m (dataStop b0 0 (drop m t)) → told DATA (z .whole) m (z .end) ≡ pieceAt t o
 unfolding pieceAt
 piece-data t o m l h p z e =
     ap (λ z. told DATA (z .whole) m (z .end)) (e ∙ data-white t o m p .same)
-    ∙ ap (λ k. told DATA (dataStop b0 0 (drop o t) .whole) k (o + dataStop b0 0 (drop o t) .size)) spaces ∙ ap (pieceFrom o) (sym is)
+    ∙ ap (λ k. told DATA (dataStop b0 0 (drop o t) .whole) k (o + dataStop b0 0 (drop o t) .size)) p ∙ ap (pieceFrom o) (sym is)
   where
-    spaces : m ≡ o + span white (drop o t)
-    spaces = p ∙ ap (λ k. o + k) (sym (span-rule white (among 5 5) (λ x. rule x .of-white) (drop o t)))
-
     is : pieceOf (drop o t) ≡ piece DATA (span white (drop o t)) (dataStop b0 0 (drop o t))
     is = ap pieceOf (row-at t o l) ∙ data-of (getD t o 0) (drop (o + 1) t) (ne-eqb _ _ h) ∙ ap (λ u. piece DATA (span white u) (dataStop b0 0 u)) (sym (row-at t o l))
 

@@ -17,7 +17,7 @@ use Rattle.profile.specs.Spans.{span, common}
 use Rattle.profile.specs.Machine.{Brackets, b0, runByte, runNext}
 use Rattle.profile.specs.Pieces.{Stop, stop, after, meant, referenceStop, dataStop, closeStop, bodyStop, commentStop, Piece, nameSize, tagEnd, tagPiece, closePiece, markupPiece, pieceOf}
 use Rattle.profile.proofs.Laws.Spans.{span-le, common-text}
-use Rattle.markup.proofs.Classes.{rule, among-part}
+use Rattle.markup.proofs.Classes.{white-plain}
 use Rattle.markup.proofs.Data.{data-run}
 
 -- ---- within the row
@@ -155,9 +155,6 @@ markup-middle (x ∷ t) =
     (λ a. rw a (⊎-elim (λ b. rw b (tag-middle (x ∷ t))) (λ b. rw b (omega arith)) (bool-cases (nameStart x))))
     (bool-cases (eqb x '/'))))
     (bool-cases (eqb x '!'))
-
-white-plain : (x : ℕ) → white x ≡ true → plain x ≡ true
-white-plain x h = rule x .of-plain ∙ among-part 5 5 5 9 x (omega arith) (omega arith) (sym (rule x .of-white) ∙ h)
 
 data-middle : (t : List ℕ) → span white t ≤ dataStop b0 0 t .size
 data-middle t = omega (arith, ap (λ z. z .size) (data-run white white-plain t))

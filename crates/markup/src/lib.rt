@@ -1,5 +1,5 @@
 // One piece of markup at a place of a text: what it is, whether it is whole, and where it ends or breaks (`profile`, specs/Pieces).
-// Each piece is read by bytes::skip over its names, white space, data or comment, and by a few tests of single bytes between them.
+// Each piece is read by bytes::skip over its name, data or comment, by bytes::white over its white space, and by a few tests of single bytes between them.
 ghost use mathlib.Core.Path.{_≡_};
 ghost use Prim.Native.Nat.{_+_, _<_};
 ghost use mathlib.Core.Bool.{false};
@@ -89,7 +89,7 @@ fn data_end(text: &[u8], at: usize) -> Reached
 {
     let mut i = at;
     loop {
-        i = bytes::skip(text, i, 5, 9);
+        i = bytes::skip(text, i, bytes::PLAINS);
         if text.len() <= i {
             return Reached {
                 end: i,
@@ -122,7 +122,7 @@ fn data_end(text: &[u8], at: usize) -> Reached
             };
         }
         i += 1;
-        let j = bytes::skip(text, i, 3, 3);
+        let j = bytes::skip(text, i, bytes::BRACKETS);
         if i < j {
             if j < text.len() {
                 if text[j] == b'>' {
@@ -135,6 +135,21 @@ fn data_end(text: &[u8], at: usize) -> Reached
         }
         i = j;
     }
+}
+
+// What is left of data behind its white space: often nothing.
+fn rest_end(text: &[u8], at: usize) -> Reached
+    ensures { λ r. ⌜ r ≡ reachedFrom at (pieces.dataStop b0 0 (drop at (now (text .entry)))) ⌝ }
+{
+    if at < text.len() {
+        if text[at] == b'<' {
+            return Reached {
+                end: at,
+                whole: true,
+            };
+        }
+    }
+    data_end(text, at)
 }
 
 // A `>` at a place.
@@ -161,7 +176,7 @@ fn body_end(text: &[u8], at: usize) -> Reached
 {
     let mut i = at;
     loop {
-        i = bytes::skip(text, i, 1, 8);
+        i = bytes::skip(text, i, bytes::COMMENTEDS);
         if text.len() <= i {
             return Reached {
                 end: i,
@@ -211,17 +226,18 @@ fn comment_piece(text: &[u8], at: usize) -> Piece
     }
 }
 
-// Where the name that begins at a place ends; the place itself where none begins.
+// Where the name that begins at a place ends; the place itself where none begins. The bytes below `:` begin no name, though `-`, `.` and the digits go on with one; from
+// `:` on each byte that goes on with a name begins one too.
 fn name_end(text: &[u8], at: usize) -> usize
     ensures { λ r. ⌜ r ≡ at + pieces.nameSize (drop at (now (text .entry))) ⌝ }
 {
     if text.len() <= at {
         return at;
     }
-    if bytes::class_of(text[at]) != 8 {
+    if text[at] < b':' {
         return at;
     }
-    bytes::skip(text, at + 1, 7, 9)
+    bytes::skip(text, at, bytes::NAMECHARS)
 }
 
 // An end tag, of which the `</` stands at a place.
@@ -239,7 +255,7 @@ fn close_piece(text: &[u8], at: usize) -> Piece
             end: middle,
         };
     }
-    let i = bytes::skip(text, middle, 5, 5);
+    let i = bytes::white(text, middle);
     let r = greater_end(text, i);
     Piece {
         kind: CLOSE,
@@ -264,7 +280,7 @@ fn tag_piece(text: &[u8], at: usize) -> Piece
             end: middle,
         };
     }
-    let i = bytes::skip(text, middle, 5, 5);
+    let i = bytes::white(text, middle);
     if i < text.len() {
         if text[i] == b'>' {
             return Piece {
@@ -305,8 +321,8 @@ pub fn piece_at(text: &[u8], at: usize) -> Piece
         };
     }
     if text[at] != b'<' {
-        let middle = bytes::skip(text, at, 5, 5);
-        let r = data_end(text, middle);
+        let middle = bytes::white(text, at);
+        let r = rest_end(text, middle);
         return Piece {
             kind: DATA,
             whole: r.whole,

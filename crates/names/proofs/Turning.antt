@@ -12,7 +12,7 @@ use lib.ListN.{length, getD, set, drop, length-drop, length-set}
 use lib.Seq.{getD-set-other}
 use Rattle.seq.specs.Lists.{EachBelow}
 use Rattle.profile.specs.Bytes.{nameChar}
-use Rattle.profile.specs.Classes.{among}
+use Rattle.profile.specs.Classes.{within, NAMECHARS}
 use Rattle.profile.specs.Spans.{span, nameAt}
 use Rattle.profile.specs.Tags.{known}
 use Rattle.profile.proofs.Laws.Spans.{each-drop, span-le}
@@ -25,10 +25,10 @@ use Rattle.names.proofs.Numbering.{state-data, state-empty, state-same,
 use Rattle.names.proofs.Adding.{index-first, unseen, index-new, put-long, put-rest}
 
 -- ---- the size of a name
-pub name-size : (t : List ℕ) (o r : ℕ) → EachBelow 256 t → r ≡ o + span (among 7 9) (drop o t) → r - o ≡ span nameChar (drop o t)
+pub name-size : (t : List ℕ) (o r : ℕ) → EachBelow 256 t → r ≡ o + span (within NAMECHARS) (drop o t) → r - o ≡ span nameChar (drop o t)
 name-size t o r b e = omega (arith, span-nameChar (drop o t) (each-drop 256 t o b))
 
-pub name-here : (t : List ℕ) (o r : ℕ) → EachBelow 256 t → r ≡ o + span (among 7 9) (drop o t) → (r - o ≡ 0 → ⊥) → Name t o (r - o)
+pub name-here : (t : List ℕ) (o r : ℕ) → EachBelow 256 t → r ≡ o + span (within NAMECHARS) (drop o t) → (r - o ≡ 0 → ⊥) → Name t o (r - o)
 name-here t o r b e h = record {
   within = omega (arith, name-size t o r b e, span-le nameChar (drop o t), length-drop o t);
   is = name-size t o r b e;

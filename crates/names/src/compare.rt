@@ -45,9 +45,9 @@ fn name_byte(text: &[u8], place: usize) -> u8
     ensures { λ r. ⌜ r ≡ byteHere (now (text .entry)) place ⌝ }
 {
     if place < text.len() {
-        let x = text[place];
-        if 7 <= bytes::class_of(x) {
-            return x;
+        let end = place + 1;
+        if bytes::skip(&text[place..end], 0, bytes::NAMECHARS) == 1 {
+            return text[place];
         }
     }
     0

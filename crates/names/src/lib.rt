@@ -27,7 +27,7 @@ fn take_up(
     }
     let n = tags.len();
     let place = seq::widen(firsts[v]) + 1;
-    let size = bytes::skip(text, place, 7, 9) - place;
+    let size = bytes::skip(text, place, bytes::NAMECHARS) - place;
     if size == 0 {
         tags[v] = 0;
         return count;

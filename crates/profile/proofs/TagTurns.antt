@@ -11,15 +11,15 @@ use mathlib.Core.Option.{Option, none, some}
 use native.Mathlib.Omega.{arith}
 use lib.Dec.{eqb}
 use lib.ListN.{length, take, drop}
-use lib.Seq.{drop-drop}
+use lib.Seq.{drop-drop, drop-append-seam}
 use borrow.Author.Tests.{eqb-true, eqb-false, eq-eqb, ne-eqb}
 use Rattle.seq.specs.Lists.{everyOf}
 use Rattle.seq.proofs.Laws.Bools.{bool-cases, bool-false, and-left, and-right}
-use Rattle.profile.specs.Bytes.{'/', '>', white, nameStart, nameChar, isName}
+use Rattle.profile.specs.Bytes.{'/', '<', '>', white, nameStart, nameChar, isName}
 use Rattle.profile.specs.Spans.{span, common}
 use Rattle.profile.specs.Machine.{Place, inside, past, b0, State, between, angle, inTag, inEmpty, inEndTag, expect, stepTag, step, accepting}
 use Rattle.profile.specs.Check.{Tally, Reply, broken, over, meets, depthAfter, solidAfter, count, weighed, full, check}
-use Rattle.profile.specs.Pieces.{Stop, stop, after, closeStop, START, EMPTY, CLOSE, Piece, piece, nameSize, tagEnd, tagPiece, closePiece}
+use Rattle.profile.specs.Pieces.{Stop, stop, after, closeStop, START, EMPTY, CLOSE, Piece, piece, nameSize, tagEnd, tagPiece, closePiece, markupPiece, pieceOf}
 use Rattle.profile.specs.Turns.{Turn, halt, go, follow, tally, nameOf, tagTally, named, turnElement, turnClose}
 use Rattle.profile.proofs.Passes.{passes-one, check-goes, check-dead, check-short, stops-here}
 use Rattle.profile.proofs.Pieces.{Enters, tag-slash, endTag-slash}
@@ -88,6 +88,16 @@ unfolding isName
 not-empty [] h e = absurd (false≢true h)
 not-empty (x ∷ n) h e = omega arith
 
+-- The name of an end tag: after the bytes n comes u.
+name-more : (n u : List ℕ) → isName n ≡ true → nameSize (n ++ u) ≡ length n + span nameChar u
+unfolding isName nameSize
+name-more [] u h = absurd (false≢true h)
+name-more (x ∷ n) u h =
+    rw (and-left (nameStart x) (everyOf nameChar n) h) (ap suc (span-more nameChar n u (and-right (nameStart x) (everyOf nameChar n) h)) ∙ sum)
+  where
+    sum : suc (length n + span nameChar u) ≡ suc (length n) + span nameChar u
+    sum = omega arith
+
 -- The end tag of a name of k bytes.
 pub closed-piece : (t : List ℕ) (k : ℕ) → nameSize t ≡ k → (k ≡ 0 → ⊥) →
     closePiece t ≡ piece CLOSE (2 + k) (after (2 + k + span white (drop k t)) (closeStop (drop (span white (drop k t)) (drop k t))))
@@ -96,6 +106,26 @@ closed-piece t k e h = rw (e, ne-eqb k 0 h)
 
 pub close-middle : (t : List ℕ) → (nameSize t ≡ 0 → ⊥) → closePiece t .middle ≡ 2 + nameSize t
 close-middle t h = ap (λ (q : Piece). q .middle) (closed-piece t (nameSize t) refl h)
+
+-- The end tag of the name n, without white space.
+pub close-bare : (n v : List ℕ) → isName n ≡ true → pieceOf ('<' ∷ '/' ∷ (n ++ ('>' ∷ v))) ≡ piece CLOSE (2 + length n) (stop (3 + length n) true)
+unfolding pieceOf markupPiece nameChar nameStart white span closeStop
+close-bare n v h = closed-piece u (length n) size (not-empty n h) ∙ ap (λ w. piece CLOSE (2 + length n) (after (2 + length n + span white w) (closeStop (drop (span white w) w)))) rest ∙ ends
+  where
+    u : List ℕ
+    u = n ++ ('>' ∷ v)
+
+    size : nameSize u ≡ length n
+    size = omega (arith, name-more n ('>' ∷ v) h, span-fails nameChar '>' v refl)
+
+    rest : drop (length n) u ≡ '>' ∷ v
+    rest = drop-append-seam n ('>' ∷ v)
+
+    ends : piece CLOSE (2 + length n) (after (2 + length n + span white ('>' ∷ v)) (closeStop (drop (span white ('>' ∷ v)) ('>' ∷ v)))) ≡ piece CLOSE (2 + length n) (stop (3 + length n) true)
+    ends = ap (λ k. piece CLOSE (2 + length n) (stop k true)) three
+      where
+        three : 2 + length n + 0 + 1 ≡ 3 + length n
+        three = omega arith
 
 name-greater : (x : ℕ) → nameChar x ≡ true → eqb x '>' ≡ false
 unfolding nameChar nameStart
@@ -304,16 +334,6 @@ module _ (L N : ℕ) where
             ap (λ i. check L N i (between b0 (past p)) (tally (c .met) (pred (c .depth)) false) t) next ∙
             ap (λ u. check L N (j + (k + 1)) (between b0 (past p)) (tally (c .met) (pred (c .depth)) false) u) (sym behind-it)
         by-byte false q = check-dead L N (j + k) (inEndTag p) x c t (unfold step in rw (w x t refl, q)) ∙ ap broken same
-
-  -- The name of the end tag: after the bytes n comes u.
-  name-more : (n u : List ℕ) → isName n ≡ true → nameSize (n ++ u) ≡ length n + span nameChar u
-  unfolding isName nameSize
-  name-more [] u h = absurd (false≢true h)
-  name-more (x ∷ n) u h =
-      rw (and-left (nameStart x) (everyOf nameChar n) h) (ap suc (span-more nameChar n u (and-right (nameStart x) (everyOf nameChar n) h)) ∙ sum)
-    where
-      sum : suc (length n + span nameChar u) ≡ suc (length n) + span nameChar u
-      sum = omega arith
 
   pub close-turn : (n : List ℕ) (p : Place) → isName n ≡ true → (c : Tally) (j y : ℕ) (t : List ℕ) →
       check L N (suc j) (angle (inside n p)) c ('/' ∷ t) ≡

@@ -2,7 +2,7 @@
 use Prim.Native.Nat.{_-_}
 use native.Mathlib.Omega.{arith}
 use lib.ListN.{length}
-use Rattle.profile.specs.Classes.{among}
+use Rattle.profile.specs.Classes.{within, COMMENTEDS}
 use Rattle.markup.proofs.Classes.{skip-stops}
 use Rattle.markup.proofs.Reading.{reading-start}
 use Rattle.markup.proofs.Loops.{Body, body-skip, body-ends, body-at-other, body-over-dash, body-at-two}
@@ -31,7 +31,7 @@ returns-2 : tie.Need-returns-2 Inv-loop μ-loop
 returns-2 c =
     let b = c .before .before in
     let a = b .before in
-    body-at-other _ _ _ (body-skip _ _ _ (a .before .loop .inv) _ (a .skip .ensures)) (b .if1 .left) (skip-stops (among 1 8) _ _ _ (a .skip .ensures) (b .if1 .left)) (c .if2 .taken)
+    body-at-other _ _ _ (body-skip _ _ _ (a .before .loop .inv) _ (a .skip .ensures)) (b .if1 .left) (skip-stops (within COMMENTEDS) _ _ _ (a .skip .ensures) (b .if1 .left)) (c .if2 .taken)
 
 add-i : tie.Need-add-i Inv-loop μ-loop
 add-i c = omega arith

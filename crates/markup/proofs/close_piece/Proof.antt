@@ -14,8 +14,8 @@ name-end-requires c κs = tt
 returns : tie.Need-returns
 returns c = close-none _ _ _ (c .before .name-end .ensures) (c .if1 .taken)
 
-skip-requires : tie.Need-skip-requires
-skip-requires c κs = tt
+white-requires : tie.Need-white-requires
+white-requires c κs = tt
 
 greater-end-requires : tie.Need-greater-end-requires
 greater-end-requires c κs = tt
@@ -23,9 +23,9 @@ greater-end-requires c κs = tt
 returns-2 : tie.Need-returns-2
 returns-2 c =
     let b = c .before .before in
-    close-is _ _ _ _ _ _ (named _ _ _ _ (b .before .name-end .ensures) (c .before .skip .ensures)) (b .if1 .left) _ (c .greater-end .ensures)
+    close-is _ _ _ _ _ _ (named _ _ _ _ (b .before .name-end .ensures) (c .before .white .ensures)) (b .if1 .left) _ (c .greater-end .ensures)
 
 pub close-piece-spec : {M : Type 1} → statement M
 close-piece-spec =
     tie.close
-    (tie.spec add-name name-end-requires returns skip-requires greater-end-requires returns-2)
+    (tie.spec add-name name-end-requires returns white-requires greater-end-requires returns-2)

@@ -4,7 +4,7 @@ use mathlib.Core.Path.{ap}
 use native.Mathlib.Omega.{arith}
 use lib.ListN.{length}
 use borrow.Author.Tests.{not-true, not-false}
-use Rattle.profile.specs.Classes.{among}
+use Rattle.profile.specs.Classes.{within, PLAINS}
 use Rattle.markup.proofs.Classes.{skip-stops}
 use Rattle.markup.proofs.Reading.{reading-start}
 use Rattle.markup.proofs.Loops.{Data, data-skip, data-ends, data-at-less, data-at-other, data-over-greater, data-at-broken, data-over-reference, data-over-one, data-over-last, data-over-brackets, data-at-two}
@@ -79,7 +79,7 @@ returns-4 c =
     let b = d .before .before in
     let a = b .before in
     data-at-other _ _ _ (data-skip _ _ _ (a .before .loop .inv) _ (a .skip .ensures)) (b .if1 .left)
-    (skip-stops (among 5 9) _ _ _ (a .skip .ensures) (b .if1 .left)) (d .if2 .left) (c .before .before .if3 .left) (c .before .if5 .left) (c .if6 .taken)
+    (skip-stops (within PLAINS) _ _ _ (a .skip .ensures) (b .if1 .left)) (d .if2 .left) (c .before .before .if3 .left) (c .before .if5 .left) (c .if6 .taken)
 
 add-i-2 : tie.Need-add-i-2 Inv-loop μ-loop
 add-i-2 c = omega arith

@@ -12,16 +12,16 @@ returns c = piece-end _ _ (c .if1 .taken)
 shared-slice-read-if2 : tie.Need-shared-slice-read-if2
 shared-slice-read-if2 c = omega arith
 
-skip-requires : tie.Need-skip-requires
-skip-requires c κs = tt
+white-requires : tie.Need-white-requires
+white-requires c κs = tt
 
-data-end-requires : tie.Need-data-end-requires
-data-end-requires c κs = tt
+rest-end-requires : tie.Need-rest-end-requires
+rest-end-requires c κs = tt
 
 returns-2 : tie.Need-returns-2
 returns-2 c =
     let d = c .before .before in
-    piece-data _ _ _ (d .before .before .if1 .left) (d .if2 .taken) (c .before .skip .ensures) _ (c .data-end .ensures)
+    piece-data _ _ _ (d .before .before .if1 .left) (d .if2 .taken) (c .before .white .ensures) _ (c .rest-end .ensures)
 
 add-next : tie.Need-add-next
 add-next c = omega arith
@@ -67,8 +67,8 @@ piece-at-spec =
     (tie.spec
     returns
     shared-slice-read-if2
-    skip-requires
-    data-end-requires
+    white-requires
+    rest-end-requires
     returns-2
     add-next
     shared-slice-read-if4

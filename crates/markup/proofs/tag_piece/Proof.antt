@@ -14,8 +14,8 @@ name-end-requires c κs = tt
 returns : tie.Need-returns
 returns c = tag-none _ _ _ (c .before .name-end .ensures) (c .if1 .taken)
 
-skip-requires : tie.Need-skip-requires
-skip-requires c κs = tt
+white-requires : tie.Need-white-requires
+white-requires c κs = tt
 
 shared-slice-read-if3 : tie.Need-shared-slice-read-if3
 shared-slice-read-if3 c = omega arith
@@ -28,7 +28,7 @@ returns-2 c =
     let d = c .before .before in
     let a = d .before in
     let b = a .before in
-    tag-greater _ _ _ _ _ _ (named _ _ _ _ (b .before .name-end .ensures) (a .skip .ensures)) (b .if1 .left) (d .if2 .taken) (c .if3 .taken)
+    tag-greater _ _ _ _ _ _ (named _ _ _ _ (b .before .name-end .ensures) (a .white .ensures)) (b .if1 .left) (d .if2 .taken) (c .if3 .taken)
 
 shared-slice-read-if4 : tie.Need-shared-slice-read-if4
 shared-slice-read-if4 c = omega arith
@@ -44,20 +44,20 @@ returns-3 c =
     let d = c .before .before .before .before .before in
     let a = d .before in
     let b = a .before in
-    tag-empty _ _ _ _ _ _ (named _ _ _ _ (b .before .name-end .ensures) (a .skip .ensures)) (b .if1 .left) (d .if2 .taken) (c .before .if4 .taken) _ (c .greater-end .ensures)
+    tag-empty _ _ _ _ _ _ (named _ _ _ _ (b .before .name-end .ensures) (a .white .ensures)) (b .if1 .left) (d .if2 .taken) (c .before .if4 .taken) _ (c .greater-end .ensures)
 
 returns-4 : tie.Need-returns-4
 returns-4 c =
     let d = c .before .before .before .before in
     let a = d .before in
     let b = a .before in
-    tag-other _ _ _ _ _ _ (named _ _ _ _ (b .before .name-end .ensures) (a .skip .ensures)) (b .if1 .left) (d .if2 .taken) (c .before .before .if3 .left) (c .if4 .left)
+    tag-other _ _ _ _ _ _ (named _ _ _ _ (b .before .name-end .ensures) (a .white .ensures)) (b .if1 .left) (d .if2 .taken) (c .before .before .if3 .left) (c .if4 .left)
 
 returns-5 : tie.Need-returns-5
 returns-5 c =
     let a = c .before in
     let b = a .before in
-    tag-ends _ _ _ _ _ _ (named _ _ _ _ (b .before .name-end .ensures) (a .skip .ensures)) (b .if1 .left) (c .if2 .left)
+    tag-ends _ _ _ _ _ _ (named _ _ _ _ (b .before .name-end .ensures) (a .white .ensures)) (b .if1 .left) (c .if2 .left)
 
 pub tag-piece-spec : {M : Type 1} → statement M
 tag-piece-spec =
@@ -66,7 +66,7 @@ tag-piece-spec =
     add-name
     name-end-requires
     returns
-    skip-requires
+    white-requires
     shared-slice-read-if3
     add-t12
     returns-2
