@@ -1,4 +1,4 @@
--- The loops of `skip` (Run) and `common` (Match): at each place, what is left of what was asked for. Assumes nothing.
+-- The loops of `skip`, `find` and `rise` (Run) and of `common` (Match): at each place, what is left of what was asked for. Assumes nothing.
 -- Letters: t text, w word, f test of a byte, o where the loop began, i where it is.
 use Prim.Native.Nat.{ℕ, suc, _+_, _≤_, _<_}
 use mathlib.Core.Path.{_≡_, refl, sym, ap, _∙_}

@@ -1,4 +1,5 @@
-// The loops over the bytes of a text that an XML reader is made of: how far bytes of some classes go on, and how much of a word stands at a place.
+// The loops over the bytes of a text that an XML reader is made of: how far bytes of some classes go on, where a byte stands next, and how much of a
+// word stands at a place.
 // Each function takes slices of any length and any content, and a place past the end of the text has no bytes at it.
 ghost use mathlib.Core.Path.{_≡_};
 ghost use Prim.Native.Nat.{_+_, _<_};
@@ -94,6 +95,34 @@ pub fn white(text: &[u8], at: usize) -> usize
         i += 1;
     }
     i
+}
+
+// The first place from `at` on at which the byte x stands, or the end of the text; `at` itself past the end.
+pub fn find(text: &[u8], at: usize, x: u8) -> usize
+    ensures { λ r. ⌜ r ≡ at + spans.span (spans.other x) (drop at (now (text .entry))) ⌝ }
+{
+    let mut place = at;
+    while place < text.len() {
+        if text[place] == x {
+            return place;
+        }
+        place += 1;
+    }
+    place
+}
+
+// The first place from `at` on at which a byte above 32 stands, or the end of the text; `at` itself past the end.
+pub fn rise(text: &[u8], at: usize) -> usize
+    ensures { λ r. ⌜ r ≡ at + spans.span spans.low (drop at (now (text .entry))) ⌝ }
+{
+    let mut place = at;
+    while place < text.len() {
+        if 32 < text[place] {
+            return place;
+        }
+        place += 1;
+    }
+    place
 }
 
 // How many bytes of the word stand in the text at a place, up to the first that differs.

@@ -8,7 +8,7 @@ use mathlib.Core.Bool.{Bool, true, false, not, cond, false≢true}
 use native.Mathlib.Omega.{arith}
 use lib.Dec.{eqb, ltb}
 use lib.ListN.{length, getD, set, length-set}
-use borrow.Author.Tests.{not-true, not-false, lt-ltb, le-ltb, eq-eqb, ne-eqb}
+use borrow.Author.Tests.{not-true, not-false, lt-ltb, le-ltb, eq-eqb, ne-eqb, eqb-true}
 use Rattle.profile.specs.Reader.{top}
 use Rattle.profile.specs.Pieces.{DATA, COMMENT, START, CLOSE}
 use Rattle.markup.specs.declared.Piece.{Piece}
@@ -219,3 +219,13 @@ module _ (S : Store) where
         sym
         (store-else (eqb (p .kind) DATA) (ne-eqb (p .kind) DATA d) _ _ ∙
         store-else (eqb (p .kind) COMMENT) (ne-eqb (p .kind) COMMENT c) S (tagStore at p S))
+
+  -- Only data has a use for the middle of a piece.
+  pub turn-middle : (at k : ℕ) (b : Bool) (m m′ e : ℕ) → (k ≡ DATA → m ≡ m′) →
+      turnStore at (record { kind = k; whole = b; middle = m; end = e }) S ≡ turnStore at (record { kind = k; whole = b; middle = m′; end = e }) S
+  turn-middle at k b m m′ e h = by-kind (eqb k DATA) refl
+    where
+      by-kind : (d : Bool) → eqb k DATA ≡ d →
+          turnStore at (record { kind = k; whole = b; middle = m; end = e }) S ≡ turnStore at (record { kind = k; whole = b; middle = m′; end = e }) S
+      by-kind true q = ap (λ i. turnStore at (record { kind = k; whole = b; middle = i; end = e }) S) (h (eqb-true k DATA q))
+      by-kind false q = unfold turnStore tagStore in rw q

@@ -3,9 +3,10 @@
 --   here-start, here-end     at the beginning; at the end the rows are the tree
 --   here-pre, here-step      what a turn needs, and that it comes to stand behind the piece
 --   here-moves, here-long    a piece is not empty and ends in the text; the rows keep their lengths
+--   turn-…                   the same of the piece as it is skimmed: it is whole, so the two agree
 -- Letters as in specs/Inner; R the rows at the beginning, n how long they are. Assumes nothing.
 use Prim.Native.Nat.{ℕ, suc, _+_, _-_, _≤_, _<_}
-use mathlib.Core.Path.{_≡_, refl, sym, ap, subst, _∙_}
+use mathlib.Core.Path.{_≡_, refl, sym, ap, ap₂, subst, _∙_}
 use mathlib.Core.Logic.{⊎-elim, inl, inr}
 use mathlib.Core.List.{List, [], _∷_, _++_, map}
 use mathlib.Core.Bool.{Bool, true, false, cond, false≢true}
@@ -32,10 +33,12 @@ use Rattle.profile.proofs.PieceLaws.{piece-cases, piece-le}
 use Rattle.profile.proofs.Went.{Stands, Went, went, stands-start, stands-le, flushed-length, broken-whole}
 use Rattle.markup.specs.declared.Piece.{Piece}
 use Rattle.markup.specs.Pieces.{pieceFrom, pieceAt}
+use Rattle.skim.specs.Skim.{skimAt}
+use Rattle.skim.proofs.Laws.{Agrees, skim-whole}
 use Rattle.reader.specs.declared.build.State.{State}
 use Rattle.names.specs.Names.{names}
 use Rattle.reader.specs.Inner.{Rows, rows, Store, pathIn, blank, flushedMet, flushedRows, Flushed, dataState, putNode, above, tagStore, turnStore, Room, TurnPre, markOf, mark, BuildPre, Built}
-use Rattle.reader.proofs.Calls.{tag-close, tag-start, tag-empty, turn-data, turn-comment, turn-tag}
+use Rattle.reader.proofs.Calls.{tag-close, tag-start, tag-empty, turn-data, turn-comment, turn-tag, turn-middle}
 use Rattle.reader.proofs.Rows.{Sized, written, written-nil, written-sized, written-all}
 use Rattle.reader.proofs.Depth.{Follows, follows-start, follows-end, follows-data, follows-room, follows-tag, follows-some, follows-close, follows-rest, few}
 use Rattle.reader.proofs.Names.{isTag, tag-named, name-behind, names-map}
@@ -270,8 +273,9 @@ module _ (T : List ℕ) (R : Rows) (pre : BuildPre T R) where
             last = omega (arith, w .last, pre .short);
           }
 
-      pub here-pre : TurnPre at (pieceFrom at q) S
-      here-pre =
+      -- whatever its middle
+      pub here-pre : (m : ℕ) → TurnPre at (record { kind = q .kind; whole = q .whole; middle = m; end = at + q .size }) S
+      here-pre m =
           record {
             moves = omega (arith, here-moves);
             tag = λ d c.
@@ -436,15 +440,29 @@ module _ (T : List ℕ) (R : Rows) (pre : BuildPre T R) where
           }
 
     -- ---- the same of the piece as the code has it
-    module _ (p : Piece) (e : p ≡ pieceAt T at) where
-      piece-is : p ≡ pieceFrom at q
-      piece-is = e ∙ unfold pieceAt in refl
+    here-whole : q .whole ≡ true
+    here-whole = by-kind (eqb (q .kind) END) refl
+      where
+        by-kind : (b : Bool) → eqb (q .kind) END ≡ b → q .whole ≡ true
+        by-kind true e = ap (λ t. pieceOf t .whole) (end-only t (eqb-true (q .kind) END e)) ∙ unfold pieceOf in refl
+        by-kind false e = gone (eqb-false (q .kind) END e) .whole-piece
+
+    module _ (p : Piece) (e : p ≡ skimAt T at) where
+      agrees : Agrees p (pieceFrom at q)
+      agrees = subst (λ p. Agrees p (pieceFrom at q)) (sym e) (unfold pieceAt in skim-whole T at here-whole)
 
       kind-is : p .kind ≡ q .kind
-      kind-is = ap (λ (p : Piece). p .kind) piece-is
+      kind-is = agrees .kind
 
       end-is : p .end ≡ at + q .size
-      end-is = ap (λ (p : Piece). p .end) piece-is
+      end-is = agrees .end
+
+      -- It is the piece of the profile but for its middle.
+      piece-is : p ≡ record { kind = q .kind; whole = q .whole; middle = p .middle; end = at + q .size }
+      piece-is = ap₂ (λ k b. record { kind = k; whole = b; middle = p .middle; end = p .end }) kind-is (agrees .whole) ∙ ap (λ i. record { kind = q .kind; whole = q .whole; middle = p .middle; end = i }) end-is
+
+      turn-is : turnStore at p S ≡ turnStore at (pieceFrom at q) S
+      turn-is = ap (λ p. turnStore at p S) piece-is ∙ turn-middle S at (q .kind) (q .whole) (p .middle) (at + q .middle) (at + q .size) (agrees .middle)
 
       pub turn-ends : p .kind ≡ END → Built T (S .rows)
       turn-ends k = here-end (sym kind-is ∙ k)
@@ -454,11 +472,11 @@ module _ (T : List ℕ) (R : Rows) (pre : BuildPre T R) where
         goes-on k = more (kind-is ∙ k)
 
         pub turn-pre : TurnPre at p S
-        turn-pre = subst (λ p. TurnPre at p S) (sym piece-is) (here-pre goes-on)
+        turn-pre = subst (λ p. TurnPre at p S) (sym piece-is) (here-pre goes-on (p .middle))
 
         pub turn-less : length T - p .end < length T - at
         turn-less = omega (arith, end-is, here-moves goes-on, here-within goes-on)
 
         pub turn-again : (S′ : Store) → S′ ≡ turnStore at p S → Here T R (p .end) S′
         turn-again S′ f =
-            subst (λ i. Here T R i S′) (sym end-is) (subst (Here T R (at + q .size)) (sym (f ∙ ap (λ p. turnStore at p S) piece-is)) (here-step goes-on))
+            subst (λ i. Here T R i S′) (sym end-is) (subst (Here T R (at + q .size)) (sym (f ∙ turn-is)) (here-step goes-on))

@@ -1,6 +1,6 @@
 // The second pass over a text, which the judge has accepted: it writes each node's parent, its mark (1 for an element, 0 for data) and the places of its first
-// and its last byte. The numbers of the open elements are kept in a row of 64. The data since the last tag is held until the next tag comes: only then it is known
-// where it ends, and whether it makes a node.
+// and its last byte. Every piece of such a text is whole, so it is skimmed and not judged again. The numbers of the open elements are kept in a row of 64. The
+// data since the last tag is held until the next tag comes: only then it is known where it ends, and whether it makes a node.
 ghost use mathlib.Core.Path.{_≡_};
 ghost use Prim.Native.Nat.{_<_};
 ghost use Rattle.profile.specs.Reader.{top};
@@ -217,7 +217,7 @@ pub(crate) fn build(
     let mut at: usize = 0;
     let mut s = behind(0, 0);
     loop {
-        let p = markup::piece_at(text, at);
+        let p = skim::skim_at(text, at);
         if p.kind == markup::END {
             return;
         }

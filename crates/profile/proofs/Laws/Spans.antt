@@ -3,9 +3,11 @@
 --   span-le, span-passes, span-stops        a span is within the row; its bytes pass, and the byte after it, if there is one, fails
 --   span-is, span-ge                        and these fix it
 --   span-keeps                              the bytes of a span, all together
+--   span-past                               a span that goes on over another
 --   span-ext                                two tests that agree below n have one span on a row of numbers below n
 --   common-step, common-stop, common-end    the common beginning from a place on, byte by byte
 --   common-word, common-text, common-same   it is within both rows, and the same in both
+--   common-span                             it is within a span where the bytes of one row pass
 --   common-differs                          after it, where neither row ends, the bytes differ
 --   each-drop, each-take                    the bytes of a part of a row
 -- Letters: t w rows of bytes, f g tests of a byte, i k places. Assumes nothing.
@@ -21,7 +23,7 @@ use borrow.Author.Tests.{eq-eqb, ne-eqb, eqb-true, eqb-false}
 use lib.ListN.{length, getD, take, drop, length-take, length-drop, drop-of-length-le}
 use lib.Seq.{drop-cons, getD-drop, getD-take}
 use Rattle.seq.specs.Lists.{everyOf, EachBelow}
-use Rattle.seq.proofs.Laws.Bools.{bool-cases, bool-not-both, and-both}
+use Rattle.seq.proofs.Laws.Bools.{bool-cases, bool-not-both, and-left, and-right, and-both}
 use Rattle.seq.proofs.Laws.Numbers.{less-or}
 use Rattle.seq.proofs.Laws.Lists.{each-tail}
 use Rattle.profile.specs.Spans.{span, common}
@@ -81,6 +83,19 @@ unfolding span everyOf
 span-keeps f [] = refl
 span-keeps f (x ∷ t) = ⊎-elim (λ q. rw q (and-both (f x) _ q (span-keeps f t))) (λ q. rw q) (bool-cases (f x))
 
+pub span-past : (f g : ℕ → Bool) → ((x : ℕ) → f x ≡ true → g x ≡ true) → (t : List ℕ) → span g t ≡ span f t + span g (drop (span f t) t)
+unfolding span
+span-past f g e [] = refl
+span-past f g e (x ∷ t) = by-byte (f x) refl (span-past f g e t)
+  where
+    passing : g x ≡ true → span g (x ∷ t) ≡ suc (span g t)
+    passing q = ap (λ (b : Bool). cond b (suc (span g t)) 0) q
+
+    by-byte : (b : Bool) → f x ≡ b → span g t ≡ span f t + span g (drop (span f t) t) →
+        span g (x ∷ t) ≡ cond b (suc (span f t)) 0 + span g (drop (cond b (suc (span f t)) 0) (x ∷ t))
+    by-byte true q r = omega (arith, passing (e x q))
+    by-byte false q r = omega arith
+
 pub span-ext : (f g : ℕ → Bool) (n : ℕ) (t : List ℕ) → EachBelow n t → ((x : ℕ) → x < n → f x ≡ g x) → span f t ≡ span g t
 unfolding span
 span-ext f g n [] b e = refl
@@ -132,6 +147,19 @@ common-same [] t = refl
 common-same (y ∷ w) [] = refl
 common-same (y ∷ w) (x ∷ t) =
     ⊎-elim (λ q. rw q (ap₂ (λ (a : ℕ) (l : List ℕ). a ∷ l) (sym (eqb-true x y q)) (common-same w t))) (λ q. rw q) (bool-cases (eqb x y))
+
+pub common-span : (f : ℕ → Bool) (w t : List ℕ) → everyOf f w ≡ true → common w t ≤ span f t
+unfolding common span everyOf
+common-span f [] t e = zero-le
+common-span f (y ∷ w) [] e = zero-le
+common-span f (y ∷ w) (x ∷ t) e = by-byte (eqb x y) refl (common-span f w t (and-right (f y) (everyOf f w) e))
+  where
+    passing : eqb x y ≡ true → span f (x ∷ t) ≡ suc (span f t)
+    passing q = ap (λ (b : Bool). cond b (suc (span f t)) 0) (ap f (eqb-true x y q) ∙ and-left (f y) (everyOf f w) e)
+
+    by-byte : (b : Bool) → eqb x y ≡ b → common w t ≤ span f t → cond b (suc (common w t)) 0 ≤ span f (x ∷ t)
+    by-byte true q r = omega (arith, passing q)
+    by-byte false q r = zero-le
 
 pub common-differs : (w t : List ℕ) → common w t < length w → common w t < length t → getD t (common w t) 0 ≡ getD w (common w t) 0 → ⊥
 unfolding common

@@ -30,8 +30,8 @@ behind-requires c κs = tt
 loop-holds : tie.Need-loop-holds Inv-loop μ-loop
 loop-holds c = here-start _ _ (c .before .before .before .before .before .before .pre) _ _ (c .behind .ensures) refl
 
-piece-at-requires : tie.Need-piece-at-requires Inv-loop μ-loop
-piece-at-requires c κs = tt
+skim-at-requires : tie.Need-skim-at-requires Inv-loop μ-loop
+skim-at-requires c κs = tt
 
 same-length : tie.Need-same-length Inv-loop μ-loop
 same-length c = here-long _ _ (called (c .before) .pre) _ _ (head (c .before) .loop .inv) .parents
@@ -46,24 +46,24 @@ same-length-4 : tie.Need-same-length-4 Inv-loop μ-loop
 same-length-4 c = here-long _ _ (called (c .before) .pre) _ _ (head (c .before) .loop .inv) .lasts ∙ sym (called (c .before) .pre .lasts)
 
 returns : tie.Need-returns Inv-loop μ-loop
-returns c = turn-ends _ _ (called (c .before) .pre) _ _ (head (c .before) .loop .inv) _ (c .before .before .piece-at .ensures) (c .if1 .taken)
+returns c = turn-ends _ _ (called (c .before) .pre) _ _ (head (c .before) .loop .inv) _ (c .before .before .skim-at .ensures) (c .if1 .taken)
 
 slice-aggregate-take-turn : tie.Need-slice-aggregate-take-turn Inv-loop μ-loop
 slice-aggregate-take-turn c = sym (c .before .before .before .before .loop .inv .opens)
 
 take-turn-requires : tie.Need-take-turn-requires Inv-loop μ-loop
 take-turn-requires c κs =
-    turn-pre _ _ (called (c .before .before .before .before .before .before) .pre) _ _ (head (c .before .before .before .before .before .before) .loop .inv) _ (c .before .before .before .before .before .before .before .piece-at .ensures)
+    turn-pre _ _ (called (c .before .before .before .before .before .before) .pre) _ _ (head (c .before .before .before .before .before .before) .loop .inv) _ (c .before .before .before .before .before .before .before .skim-at .ensures)
     (c .before .before .before .before .before .if1 .left)
 
 loop-less : tie.Need-loop-less Inv-loop μ-loop
 loop-less c =
-    turn-less _ _ (called (behind-turn c .before) .pre) _ _ (head (behind-turn c .before) .loop .inv) _ (behind-turn c .before .before .piece-at .ensures)
+    turn-less _ _ (called (behind-turn c .before) .pre) _ _ (head (behind-turn c .before) .loop .inv) _ (behind-turn c .before .before .skim-at .ensures)
     (behind-turn c .if1 .left)
 
 loop-again : tie.Need-loop-again Inv-loop μ-loop
 loop-again c =
-    turn-again _ _ (called (behind-turn c .before) .pre) _ _ (head (behind-turn c .before) .loop .inv) _ (behind-turn c .before .before .piece-at .ensures)
+    turn-again _ _ (called (behind-turn c .before) .pre) _ _ (head (behind-turn c .before) .loop .inv) _ (behind-turn c .before .before .skim-at .ensures)
     (behind-turn c .if1 .left) _ (c .before .before .before .before .before .before .before .before .before .take-turn .ensures)
 
 pub build-spec : {M : Type 1} → statement M
@@ -74,7 +74,7 @@ build-spec =
     μ-loop
     behind-requires
     loop-holds
-    piece-at-requires
+    skim-at-requires
     same-length
     same-length-2
     same-length-3

@@ -1,0 +1,5 @@
+pub mod Laws
+mod Rows
+mod Pieces
+mod Ends
+pub mod Cases
