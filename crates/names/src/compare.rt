@@ -3,7 +3,7 @@ ghost use mathlib.Core.Path.{_≡_};
 ghost use Prim.Native.Nat.{_<_};
 ghost use Rattle.profile.specs.Spans.{nameAt};
 ghost use Rattle.names.specs.Inner.Bits.{digit};
-ghost use Rattle.names.specs.Inner.Calls.{nameBit, byteHere, Name, FirstBit, DifferPre, Compared};
+ghost use Rattle.names.specs.Inner.Calls.{nameBit, byteHere, Name, FirstBit, DifferPre, Compared, Alike};
 
 // Bit j of a byte, as 0 or 1.
 fn bit_of(x: u8, j: usize) -> u8
@@ -66,4 +66,16 @@ pub(crate) fn differ(text: &[u8], place: usize, size: usize, other: usize) -> us
         return 268435456;
     }
     8 * k + first_bit(x, y)
+}
+
+// Whether the name of `size` bytes at a place and the name at another place are the same bytes.
+pub(crate) fn same(text: &[u8], place: usize, size: usize, other: usize) -> bool
+    requires { ⌜ DifferPre (now text) place size other ⌝ }
+    ensures { λ r. ⌜ Alike (nameAt (now (text .entry)) place) (nameAt (now (text .entry)) other) r ⌝ }
+{
+    let end = place + size;
+    if bytes::common(&text[place..end], text, other) < size {
+        return false;
+    }
+    name_byte(text, other + size) == 0
 }

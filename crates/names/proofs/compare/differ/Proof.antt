@@ -1,10 +1,8 @@
 -- `names::compare::differ` meets its contract: glue over Comparing.
 use Prim.Native.Nat.{_≤_}
-use mathlib.Core.Path.{_≡_, ap, _∙_}
+use mathlib.Core.Path.{_≡_}
 use native.Mathlib.Omega.{arith}
-use lib.ListN.{drop}
-use Rattle.profile.specs.Spans.{common}
-use Rattle.names.proofs.Comparing.{shared, shared-first, found-same, found-other, name-part}
+use Rattle.names.proofs.Comparing.{shared, shared-first, found-same, found-other, part-shared}
 use Rattle.names.proofs.compare.differ.Statement.{statement}
 use Rattle.names.proofs.compare.differ.Tie as tie
 
@@ -25,7 +23,7 @@ common-requires c κs = tt
 
 -- What `common` gives.
 many : (c : tie.After-common) → c .common .result ≡ shared (c .before .before .before .args .text .now) (c .before .before .before .args .place) (c .before .before .before .args .other)
-many c = c .common .ensures ∙ ap (λ w. common w (drop (c .before .before .before .args .other) (c .before .before .before .args .text .now))) (name-part _ _ _ (c .before .before .before .pre .name .is))
+many c = part-shared _ _ _ (c .before .before .before .args .other) _ (c .before .before .before .pre .name) (c .common .ensures)
 
 -- No more than the name has.
 within : (c : tie.After-common) → c .common .result ≤ c .before .before .before .args .size
