@@ -22,7 +22,7 @@ use Rattle.profile.proofs.Laws.Spans.{span-step, span-stop, span-none, span-le,
 use Rattle.names.specs.Inner.Bits.{bitOf}
 use Rattle.names.proofs.Digits.{bit-none}
 use Rattle.names.specs.Inner.Tree.{bits}
-use Rattle.names.specs.Inner.Calls.{nameBit, byteHere, Name, FirstBit, Compared}
+use Rattle.names.specs.Inner.Calls.{nameBit, byteHere, inCommon, Name, FirstBit, Compared}
 use Rattle.names.proofs.Bits.{names-differ}
 
 -- ---- a name's bytes
@@ -87,8 +87,8 @@ passes-some a e z = bool-not-both (nameChar a) e (ap nameChar z)
 
 -- ---- the bytes that two names have in common
 module _ (t : List ℕ) (o p : ℕ) where
-  abbrev pub shared : ℕ
-  shared = common (nameAt t o) (drop p t)
+  abbrev shared : ℕ
+  shared = inCommon t o p
 
   pub shared-first : shared ≤ span nameChar (drop o t)
   shared-first = omega (arith, common-word (nameAt t o) (drop p t), name-long t o)
@@ -185,5 +185,5 @@ name-part t o z e = ap (λ (k : ℕ). take k (drop o t)) back
     back = omega arith
 
 -- What `common` gives of it.
-pub part-shared : (t : List ℕ) (o z p k : ℕ) → Name t o z → k ≡ common (take (o + z - o) (drop o t)) (drop p t) → k ≡ shared t o p
+pub part-shared : (t : List ℕ) (o z p k : ℕ) → Name t o z → k ≡ common (take (o + z - o) (drop o t)) (drop p t) → k ≡ inCommon t o p
 part-shared t o z p k n h = h ∙ ap (λ (x : List ℕ). common x (drop p t)) (name-part t o z (n .is))

@@ -1,6 +1,6 @@
 // The names of a row of nodes, numbered in order of first appearance. `number` is the entry: the marks of the nodes become the numbers.
 // Names are looked up in a tree that tells them apart bit by bit (`lookup`): a name that was seen before is found in at most eight steps for each of its bytes, and eight
-// more, whatever the other names are. Before that, one node with a name like it is looked at (`recent`): most texts have few names, each many times.
+// more, whatever the other names are. Most texts have few names, each many times: while few were seen, one node with a name like it is looked at first (`recent`).
 ghost use Rattle.names.specs.Names.{Numbered};
 ghost use Rattle.names.specs.Inner.Calls.{Fit, TurnPre, NamedPre, Turned, All};
 
@@ -10,6 +10,9 @@ mod recent;
 
 // What `compare::differ` gives for two names that are the same.
 const SAME: usize = 268435456;
+
+// The row of names met lately has a place for each of so many names. Where more were seen, most nodes in it would have another name, and the tree is asked at once.
+const FEW: u32 = 256;
 
 // Numbers node v, which has a mark and the name of `size` bytes at a place, by the tree; and says how many names were seen then: `count` before it.
 fn by_tree(
@@ -42,7 +45,7 @@ fn by_tree(
     count + 1
 }
 
-// Numbers node v, and says how many names were seen then: `count` before it. The names met lately are asked before the tree.
+// Numbers node v, and says how many names were seen then: `count` before it. While they are few, the names met lately are asked before the tree.
 fn take_up(
     text: &[u8],
     firsts: &[u32],
@@ -64,13 +67,15 @@ fn take_up(
         tags[v] = 0;
         return count;
     }
-    let key = recent::key(text, place, size);
-    let tag = recent::tag_of(text, firsts, &*tags, v, place, size, lately[key]);
-    if tag != 0 {
-        tags[v] = tag;
-        return count;
+    if count < FEW {
+        let key = recent::key(text, place, size);
+        let tag = recent::tag_of(text, firsts, &*tags, v, place, size, lately[key]);
+        if tag != 0 {
+            tags[v] = tag;
+            return count;
+        }
+        lately[key] = v;
     }
-    lately[key] = v;
     by_tree(text, firsts, place, size, v, count, tags, work)
 }
 

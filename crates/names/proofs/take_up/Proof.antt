@@ -30,7 +30,7 @@ name c = name-here _ _ _ (byte (c .before)) (c .before .skip .ensures) (c .if2 .
 
 -- From the call of `tag_of` to the test of the size.
 abbrev sized : tie.After-tag-of → tie.Else2
-sized c = c .before .before .before .before
+sized c = c .before .before .before .before .before
 
 mul-if1 : tie.Need-mul-if1
 mul-if1 c = omega (arith, c .before .before .before .before .pre .node, c .before .before .before .before .pre .fit .few)
@@ -74,7 +74,7 @@ returns-2 c =
     turned-empty _ _ _ _ _ _ (start (c .before) .pre .node) (c .before .before .before .before .if1 .left) _ _ (here (c .before)) (size (c .before)) (c .if2 .taken)
 
 key-requires : tie.Need-key-requires
-key-requires c κs = record { name = name c; some = omega (arith, c .if2 .left); short = start (c .before) .pre .fit .short }
+key-requires c κs = record { name = name (c .before); some = omega (arith, c .before .if2 .left); short = start (c .before .before) .pre .fit .short }
 
 mul-tag-of : tie.Need-mul-tag-of
 mul-tag-of c = omega (arith, c .before .key .ensures)
@@ -84,8 +84,9 @@ element-copy-out-tag-of c = c .before .key .ensures
 
 tag-of-requires : tie.Need-tag-of-requires
 tag-of-requires c κs =
-    let p = start (c .before .before .before .before) .pre in
-    record { name = name (c .before .before .before); short = p .fit .short; node = p .node; few = p .fit .few; placed = p .fit .placed }
+    let e = c .before .before .before .before in
+    let p = start (e .before) .pre in
+    record { name = name e; short = p .fit .short; node = p .node; few = p .fit .few; placed = p .fit .placed }
 
 mul-tags-2 : tie.Need-mul-tags-2
 mul-tags-2 c = omega (arith, start (sized (c .before) .before) .pre .node, start (sized (c .before) .before) .pre .fit .few)
@@ -100,7 +101,7 @@ returns-3 : tie.Need-returns-3
 returns-3 c =
     let e = sized (c .before) in
     turned-same _ _ _ _ _ _ (start (e .before) .pre .node) (e .before .before .before .before .if1 .left) _ _ (here (e .before)) (size (e .before)) (e .if2 .left) _
-    (c .if3 .taken) (c .before .tag-of .ensures .twin (c .if3 .taken))
+    (c .if4 .taken) (c .before .tag-of .ensures .twin (c .if4 .taken))
 
 mul-lately : tie.Need-mul-lately
 mul-lately c = omega (arith, c .before .before .before .before .key .ensures)
@@ -110,7 +111,7 @@ element-write-lately c = c .before .before .before .before .key .ensures
 
 by-tree-requires : tie.Need-by-tree-requires
 by-tree-requires c κs =
-    let e = sized (c .before .before .before) in
+    let e = c .before .before .before in
     record {
       turn = start (e .before) .pre;
       marked = e .before .before .before .before .if1 .left;

@@ -3,6 +3,7 @@
 --   nameHere t fs y          == the name of node y
 --   Name t o z               == the name at the place o of the text has z bytes
 --   byteHere t o             == the first byte of the name at the place o: 0 where there is none
+--   inCommon t o p           == how many bytes the name at the place o has in common with what stands at the place p
 --   Compared x y r           == r is the first bit in which two names differ, or `bits` where they are the same
 --   wayOf n β w u            == the place of the link that bits β take at the inner node u
 --   linked n v q d a b w     == the rows w with a new inner node v over what is at the place q: its bit is d, the link to the leaf v at a, and what was at q at b
@@ -16,7 +17,7 @@ use mathlib.Core.List.{List, _++_}
 use mathlib.Core.Bool.{Bool, true, cond}
 use lib.ListN.{length, getD, set, take, drop}
 use Rattle.profile.specs.Bytes.{nameChar}
-use Rattle.profile.specs.Spans.{span, nameAt}
+use Rattle.profile.specs.Spans.{span, common, nameAt}
 use Rattle.profile.specs.Tags.{known, place, tagsAfter, tagsOf}
 use Rattle.names.specs.Inner.Bits.{bitOf}
 use Rattle.names.specs.Names.{names}
@@ -48,6 +49,9 @@ nameHere t fs y = nameAt t (getD fs y 0 + 1)
 
 unfoldable pub byteHere : List ℕ → ℕ → ℕ
 byteHere t o = getD (nameAt t o) 0 0
+
+abbrev pub inCommon : List ℕ → ℕ → ℕ → ℕ
+inCommon t o p = common (nameAt t o) (drop p t)
 
 pub record Name (t : List ℕ) (o z : ℕ) : Type 0 where
   pub within : o + z ≤ length t
