@@ -11,7 +11,7 @@ mod recent;
 // What `compare::differ` gives for two names that are the same.
 const SAME: usize = 268435456;
 
-// The row of names met lately has a place for each of so many names. Where more were seen, most nodes in it would have another name, and the tree is asked at once.
+// The names met lately are asked while fewer names than this were seen. Their row has so many places: with more names, most nodes in it would have another one.
 const FEW: u32 = 256;
 
 // Numbers node v, which has a mark and the name of `size` bytes at a place, by the tree; and says how many names were seen then: `count` before it.
