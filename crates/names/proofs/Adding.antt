@@ -14,7 +14,7 @@ use lib.ListN.{length, getD, set, length-set}
 use lib.Seq.{getD-set-same, getD-set-other}
 use Rattle.seq.proofs.Laws.Bools.{bool-cases, bool-false}
 use Rattle.profile.specs.Tags.{known}
-use Rattle.profile.proofs.Laws.Tags.{known-more, known-last, known-cases, place-more, place-last}
+use Rattle.profile.proofs.Laws.Tags.{known-cases}
 use Rattle.names.specs.Inner.Tree.{leaf, In, itself, Has, apartLeaf, Rep, repLeaf, toldLeaf, find}
 use Rattle.names.specs.Inner.Calls.{nameBit, nameHere, NamesDiffer, Grown, linked, Leader, LeafOf, Index}
 use Rattle.names.proofs.Shape.{rep-has, Kept, rep-keeps, find-same}
@@ -35,15 +35,8 @@ index-first t fs n v seen ts w e lv lt lw = record {
   every = λ x k. ⊎-elim (λ q. record { node = v; leaf = itself; name = q }) (λ q. absurd (false≢true (sym (ap (λ (l : List (List ℕ)). known l x) e) ∙ q))) (known-cases seen x (nameHere t fs v) k);
 }
   where
-    none : (x : List ℕ) → known seen x ≡ false
-    none x = ap (λ (l : List (List ℕ)). known l x) e
-
-    only : (y : ℕ) → In y (leaf v) → Leader t fs (v + 1) (seen ++ (nameHere t fs v ∷ [])) (set ts v 1) y
-    only y itself = record {
-      before = omega arith;
-      knows = known-last seen (nameHere t fs v);
-      number = getD-set-same ts v 1 0 lt ∙ ap suc (sym (place-last seen (nameHere t fs v) (none (nameHere t fs v)) ∙ ap length e));
-    }
+    only : (y : ℕ) → In y (leaf v) → Leader (v + 1) (set ts v 1) y
+    only y itself = record { before = omega arith; numbered = λ q. absurd (omega (arith, q, getD-set-same ts v 1 0 lt)) }
 
 -- ---- the rows
 length-linked : (n v q d near far : ℕ) (w : List ℕ) → length (linked n v q d near far w) ≡ length w
@@ -231,28 +224,13 @@ module _ (t fs : List ℕ) (n v : ℕ) (seen : List (List ℕ)) (ts w : List ℕ
       every = λ a k. ⊎-elim (λ e. record { node = v; leaf = grow-new (G .grows); name = e }) (λ e. kept a (x .every a e)) (known-cases seen a (nameHere t fs v) k);
     }
       where
-        after : List (List ℕ)
-        after = seen ++ (nameHere t fs v ∷ [])
+        newest : (z : ℕ) → z ≡ v → Leader (v + 1) (set ts v c′) z
+        newest z e = subst (Leader (v + 1) (set ts v c′)) (sym e) (record { before = omega arith; numbered = λ q. absurd (omega (arith, q, ec, getD-set-same ts v c′ 0 lt)) })
 
-        first : Leader t fs (v + 1) (seen ++ (nameHere t fs v ∷ [])) (set ts v c′) v
-        first = record {
-          before = omega arith;
-          knows = known-last seen (nameHere t fs v);
-          number = getD-set-same ts v c′ 0 lt ∙ ec ∙ ap suc (sym (place-last seen (nameHere t fs v) unseen));
-        }
-
-        newest : (z : ℕ) → z ≡ v → Leader t fs (v + 1) (seen ++ (nameHere t fs v ∷ [])) (set ts v c′) z
-        newest z e = subst (Leader t fs (v + 1) (seen ++ (nameHere t fs v ∷ [])) (set ts v c′)) (sym e) first
-
-        older : (z : ℕ) → In z (x .tree) → Leader t fs (v + 1) (seen ++ (nameHere t fs v ∷ [])) (set ts v c′) z
+        older : (z : ℕ) → In z (x .tree) → Leader (v + 1) (set ts v c′) z
         older z h =
-            let r : Leader t fs v seen ts z = x .leader z h in
-            record {
-              before = omega (arith, r .before);
-              knows = known-more seen (nameHere t fs z) (nameHere t fs v) (r .knows);
-              number = getD-set-other ts v z c′ 0 (λ e. absurd (omega (arith, e, r .before))) ∙ r .number
-                  ∙ ap suc (sym (place-more seen (nameHere t fs z) (nameHere t fs v) (r .knows)));
-            }
+            let r : Leader v ts z = x .leader z h in
+            record { before = omega (arith, r .before); numbered = λ q. r .numbered (sym (getD-set-other ts v z c′ 0 (λ e. absurd (omega (arith, e, r .before)))) ∙ q) }
 
         kept : (a : List ℕ) → LeafOf t fs (x .tree) a → LeafOf t fs (G .tree) a
         kept a z = record { node = z .node; leaf = grow-old (G .grows) (z .leaf); name = z .name }

@@ -3,6 +3,7 @@
 --   bit-in, bit-past       a name's bits, and those past its end
 --   byte-next              byte k of a name is the first byte of what stands k bytes later
 --   found-same, found-other   what `differ` finds
+--   found-whole            where all bytes of the one are in common, and the other ends there, `same` says that they are the same
 -- Letters: t text, o p places of two names, x y the names, k how many bytes they have in common. Assumes nothing.
 use Prim.Native.Nat.{ℕ, _+_, _*_, _-_, _/_, _%_, _≤_, _<_}
 use mathlib.Core.Path.{_≡_, refl, sym, ap, _∙_}
@@ -21,7 +22,7 @@ use Rattle.profile.proofs.Laws.Spans.{span-step, span-stop, span-none, span-le,
 use Rattle.names.specs.Inner.Bits.{bitOf}
 use Rattle.names.proofs.Digits.{bit-none}
 use Rattle.names.specs.Inner.Tree.{bits}
-use Rattle.names.specs.Inner.Calls.{nameBit, byteHere, Name, FirstBit, Compared}
+use Rattle.names.specs.Inner.Calls.{nameBit, byteHere, inCommon, Name, FirstBit, Compared}
 use Rattle.names.proofs.Bits.{names-differ}
 
 -- ---- a name's bytes
@@ -86,8 +87,8 @@ passes-some a e z = bool-not-both (nameChar a) e (ap nameChar z)
 
 -- ---- the bytes that two names have in common
 module _ (t : List ℕ) (o p : ℕ) where
-  abbrev pub shared : ℕ
-  shared = common (nameAt t o) (drop p t)
+  abbrev shared : ℕ
+  shared = inCommon t o p
 
   pub shared-first : shared ≤ span nameChar (drop o t)
   shared-first = omega (arith, common-word (nameAt t o) (drop p t), name-long t o)
@@ -166,9 +167,23 @@ module _ (t : List ℕ) (o p : ℕ) where
     pub found-other : (j : ℕ) → length t ≤ 16777216 → FirstBit a b j → Compared (nameAt t o) (nameAt t p) (8 * k + j)
     found-other j few f = rw e (compared-other j few (rw (sym first, sym second) f))
 
+  -- What `same` finds: all z bytes of the first are in common, and no byte of the second is left.
+  pub found-whole : (z k : ℕ) → Name t o z → k ≡ shared → z ≤ k → byteHere t (p + z) ≡ 0 → nameAt t o ≡ nameAt t p
+  found-whole z k n e l h = shared-same (byte-next t o shared shared-first ∙ past ∙ sym h ∙ ap (λ (i : ℕ). byteHere t (p + i)) whole)
+    where
+      whole : z ≡ shared
+      whole = omega (arith, n .is, shared-first)
+
+      past : getD (nameAt t o) shared 0 ≡ 0
+      past = List·getD-eq-default (nameAt t o) 0 {n = shared} (omega (arith, n .is, name-long t o))
+
 -- The name at a place, as a part of the text.
-pub name-part : (t : List ℕ) (o z : ℕ) → z ≡ span nameChar (drop o t) → take (o + z - o) (drop o t) ≡ nameAt t o
+name-part : (t : List ℕ) (o z : ℕ) → z ≡ span nameChar (drop o t) → take (o + z - o) (drop o t) ≡ nameAt t o
 name-part t o z e = ap (λ (k : ℕ). take k (drop o t)) back
   where
     back : o + z - o ≡ span nameChar (drop o t)
     back = omega arith
+
+-- What `common` gives of it.
+pub part-shared : (t : List ℕ) (o z p k : ℕ) → Name t o z → k ≡ common (take (o + z - o) (drop o t)) (drop p t) → k ≡ inCommon t o p
+part-shared t o z p k n h = h ∙ ap (λ (x : List ℕ). common x (drop p t)) (name-part t o z (n .is))

@@ -3,20 +3,21 @@
 --   state-data, state-empty, state-same, state-new   a node of data; one without a name; a name seen before; a new one
 -- Letters as in specs/Inner/Calls. Assumes nothing.
 use Prim.Native.Nat.{ℕ, suc, _+_, _*_, _≤_, _<_}
-use mathlib.Core.Path.{_≡_, refl, sym, ap, ap₂, _∙_}
+use mathlib.Core.Path.{_≡_, refl, sym, ap, ap₂, subst, _∙_}
+use mathlib.Core.Logic.{_⊎_, ⊎-elim}
 use mathlib.Core.List.{List, [], _∷_, _++_, append-assoc, append-nil}
-use mathlib.Core.Bool.{false, cond}
+use mathlib.Core.Bool.{true, false, cond}
 use native.Mathlib.Numerals.{add-one}
 use native.Mathlib.Omega.{arith}
 use lib.Dec.{eqb}
 use lib.ListN.{length, getD, set, take, drop, length-set, length-append, drop-of-length-le}
-use lib.Seq.{drop-cons, take-suc, take-all, take-suc-set, getD-set-other}
+use lib.Seq.{drop-cons, take-suc, take-all, take-suc-set, getD-set-same, getD-set-other}
 use borrow.Author.Tests.{eq-eqb, ne-eqb}
+use Rattle.seq.proofs.Laws.Numbers.{less-or}
 use Rattle.profile.specs.Tags.{known, place, with, tagsAfter, tagsOf}
-use Rattle.profile.proofs.Laws.Tags.{tags-none, tags-some, with-known, with-new, place-new}
+use Rattle.profile.proofs.Laws.Tags.{tags-none, tags-some, with-known, with-new, place-new, known-more, known-last, place-more, place-last}
 use Rattle.names.specs.Names.{nameOf, names}
-use Rattle.names.specs.Inner.Tree.{In}
-use Rattle.names.specs.Inner.Calls.{nameHere, Index, State, All}
+use Rattle.names.specs.Inner.Calls.{nameHere, Given, Index, State, All}
 use Rattle.names.proofs.Laws.{length-names, names-at}
 
 -- ---- before the first node, and after the last
@@ -31,6 +32,7 @@ state-start t fs ms w = record {
   counted = refl;
   few = omega arith;
   done = refl;
+  given = λ y l. absurd (omega arith);
   index = λ h. absurd (h refl);
 }
 
@@ -72,8 +74,7 @@ module _ (t fs ms w₀ : List ℕ) (v : ℕ) (ts w : List ℕ) (c : ℕ) (s : St
     old = λ u i. omega (arith, x .old u i);
     leader = λ y i. record {
       before = omega (arith, x .leader y i .before);
-      knows = x .leader y i .knows;
-      number = e y (x .leader y i .before) ∙ x .leader y i .number;
+      numbered = λ q. x .leader y i .numbered (sym (e y (x .leader y i .before)) ∙ q);
     };
     every = x .every;
   }
@@ -83,6 +84,21 @@ module _ (t fs ms w₀ : List ℕ) (v : ℕ) (ts w : List ℕ) (c : ℕ) (s : St
 
   earlier : (x y : ℕ) → y < v → getD (set ts v x) y 0 ≡ getD ts y 0
   earlier x y h = getD-set-other ts v y x 0 (λ e. absurd (omega (arith, e)))
+
+  -- The numbers given with one more, where what was seen is seen as before.
+  given-next : (after : List (List ℕ)) (ts′ : List ℕ) → ((y : ℕ) → y < v → getD ts′ y 0 ≡ getD ts y 0) →
+      ((x : List ℕ) → known (s .seen) x ≡ true → (known after x ≡ true) × (place after x ≡ place (s .seen) x)) → ((getD ts′ v 0 ≡ 0 → ⊥) → Given t fs after ts′ v) →
+      (y : ℕ) → y < v + 1 → (getD ts′ y 0 ≡ 0 → ⊥) → Given t fs after ts′ y
+  given-next after ts′ e kept last y h = ⊎-elim old (λ i. new (omega arith)) (less-or y v)
+    where
+      old : y < v → (getD ts′ y 0 ≡ 0 → ⊥) → Given t fs after ts′ y
+      old i q =
+          let g : Given t fs (s .seen) ts y = s .given y i (λ r. q (e y i ∙ r)) in
+          let k : (known after (nameHere t fs y) ≡ true) × (place after (nameHere t fs y) ≡ place (s .seen) (nameHere t fs y)) = kept (nameHere t fs y) (g .knows) in
+          record { knows = k .0; number = e y i ∙ g .number ∙ ap suc (sym (k .1)) }
+
+      new : y ≡ v → (getD ts′ y 0 ≡ 0 → ⊥) → Given t fs after ts′ y
+      new i = subst (λ (k : ℕ). (getD ts′ k 0 ≡ 0 → ⊥) → Given t fs after ts′ k) (sym i) last
 
   pub state-data : getD ts v 0 ≡ 0 → State t fs ms w₀ (v + 1) ts w c
   unfolding nameOf
@@ -96,6 +112,7 @@ module _ (t fs ms w₀ : List ℕ) (v : ℕ) (ts w : List ℕ) (c : ℕ) (s : St
     few = omega (arith, s .few);
     done = done-next 0 (s .seen) ts (ap (λ (n : List ℕ). tagsAfter (s .seen) (n ∷ drop (suc v) (names t ms fs))) none ∙ tags-none (s .seen) _)
         (take-suc ts v 0 l ∙ ap (λ (x : ℕ). take v ts ++ (x ∷ [])) e);
+    given = given-next (s .seen) ts (λ y q. refl) (λ x k. (k, refl)) (λ q. absurd (q e));
     index = λ h. index-later ts (λ y q. refl) h;
   }
     where
@@ -120,6 +137,7 @@ module _ (t fs ms w₀ : List ℕ) (v : ℕ) (ts w : List ℕ) (c : ℕ) (s : St
       done = done-next 0 (s .seen) (set ts v 0)
           (ap (λ (n : List ℕ). tagsAfter (s .seen) (n ∷ drop (suc v) (names t ms fs))) (named marked ∙ none (nameHere t fs v) e) ∙ tags-none (s .seen) _)
           (take-suc-set ts v 0 l);
+      given = given-next (s .seen) (set ts v 0) (earlier 0) (λ x k. (k, refl)) (λ q. absurd (q (getD-set-same ts v 0 0 l)));
       index = index-later (set ts v 0) (earlier 0);
     }
       where
@@ -137,9 +155,8 @@ module _ (t fs ms w₀ : List ℕ) (v : ℕ) (ts w : List ℕ) (c : ℕ) (s : St
           ∙ ap₂ (λ (k : ℕ) (a : List (List ℕ)). k ∷ tagsAfter a (drop (suc v) (names t ms fs))) ex ea)
           (take-suc-set ts v x l)
 
-      pub state-same : (c ≡ 0 → ⊥) → (y : ℕ) → (T : Index t fs (length ms) v (s .seen) ts w) → In y (T .tree) → nameHere t fs v ≡ nameHere t fs y →
-          State t fs ms w₀ (v + 1) (set ts v (getD ts y 0)) w c
-      state-same h y T i e = record {
+      pub state-same : (y : ℕ) → y < v → (getD ts y 0 ≡ 0 → ⊥) → nameHere t fs v ≡ nameHere t fs y → State t fs ms w₀ (v + 1) (set ts v (getD ts y 0)) w c
+      state-same y h q e = record {
         long = length-set ts v _ ∙ s .long;
         rows = s .rows;
         ahead = ahead-set (getD ts y 0);
@@ -147,10 +164,17 @@ module _ (t fs ms w₀ : List ℕ) (v : ℕ) (ts w : List ℕ) (c : ℕ) (s : St
         seen = s .seen;
         counted = s .counted;
         few = omega (arith, s .few);
-        done = done-name (getD ts y 0) (s .seen) (ap (λ (n : List ℕ). suc (place (s .seen) n)) e ∙ sym (T .leader y i .number))
-            (with-known (s .seen) _ (ap (known (s .seen)) e ∙ T .leader y i .knows));
+        done = done-name (getD ts y 0) (s .seen) (sym number) (with-known (s .seen) _ knows);
+        given = given-next (s .seen) (set ts v (getD ts y 0)) (earlier (getD ts y 0)) (λ x k. (k, refl))
+            (λ r. record { knows = knows; number = getD-set-same ts v (getD ts y 0) 0 l ∙ number });
         index = index-later (set ts v (getD ts y 0)) (earlier (getD ts y 0));
       }
+        where
+          knows : known (s .seen) (nameHere t fs v) ≡ true
+          knows = ap (known (s .seen)) e ∙ s .given y h q .knows
+
+          number : getD ts y 0 ≡ suc (place (s .seen) (nameHere t fs v))
+          number = s .given y h q .number ∙ ap (λ (n : List ℕ). suc (place (s .seen) n)) (sym e)
 
       -- A name that was not seen before.
       module _ (new : known (s .seen) (nameHere t fs v) ≡ false) where
@@ -168,5 +192,10 @@ module _ (t fs ms w₀ : List ℕ) (v : ℕ) (ts w : List ℕ) (c : ℕ) (s : St
           counted = omega (arith, e, s .counted, length-append (s .seen) (nameHere t fs v ∷ []));
           few = omega (arith, e, s .few);
           done = done-name c′ after (omega (arith, place-new (s .seen) (nameHere t fs v) new, s .counted)) (with-new (s .seen) _ new);
+          given = given-next after (set ts v c′) (earlier c′) (λ x k. (known-more (s .seen) x (nameHere t fs v) k, place-more (s .seen) x (nameHere t fs v) k))
+              (λ q. record { knows = known-last (s .seen) (nameHere t fs v); number = getD-set-same ts v c′ 0 l ∙ e ∙ counts });
           index = λ h. index;
         }
+          where
+            counts : c + 1 ≡ suc (place after (nameHere t fs v))
+            counts = omega (arith, place-last (s .seen) (nameHere t fs v) new, s .counted)

@@ -1,6 +1,6 @@
 -- A turn of `take_all`, as `take_up` makes it: what its calls ask, and what it leaves.
 --   name-size, name-here            the size that `skip` gives is that of a name
---   walk-pre, found-before          the rows hold a tree, and the leaf found is an earlier node
+--   walk-pre, found-leader          the rows hold a tree, and the leaf found is an earlier node with a number
 --   turned-data, turned-empty, turned-first, turned-same, turned-new   the five ways to number a node
 -- Letters as in specs/Inner/Calls: o the place of v's name, p that of the name found, z size, y the leaf found. Assumes nothing.
 use Prim.Native.Nat.{ℕ, _+_, _*_, _-_, _≤_, _<_}
@@ -17,8 +17,8 @@ use Rattle.profile.specs.Spans.{span, nameAt}
 use Rattle.profile.specs.Tags.{known}
 use Rattle.profile.proofs.Laws.Spans.{each-drop, span-le}
 use Rattle.profile.proofs.Classes.{span-nameChar}
-use Rattle.names.specs.Inner.Tree.{In, find}
-use Rattle.names.specs.Inner.Calls.{nameBit, nameHere, Name, NamesDiffer, WalkPre, Found, Grown, Put, linked, Index, State, TurnPre, Turned}
+use Rattle.names.specs.Inner.Tree.{find}
+use Rattle.names.specs.Inner.Calls.{nameBit, nameHere, Name, NamesDiffer, Twin, WalkPre, Found, Grown, Put, linked, Leader, Index, State, TurnPre, Turned}
 use Rattle.names.proofs.Shape.{find-in}
 use Rattle.names.proofs.Comparing.{name-long}
 use Rattle.names.proofs.Numbering.{state-data, state-empty, state-same, state-new}
@@ -42,8 +42,8 @@ module _ (t fs : List ℕ) (v c : ℕ) (ts w : List ℕ) (pre : TurnPre t fs v c
   pub walk-pre : (o z : ℕ) → Name t o z → WalkPre t o z w (length ts)
   walk-pre o z h = record { name = h; few = pre .fit .few; long = pre .fit .long; tree = index-here .tree; holds = index-here .holds }
 
-  pub found-before : (o y : ℕ) → Found t o w (length ts) y → y < v
-  found-before o y f = index-here .leader y (rw (f .leads (index-here .tree) (index-here .holds)) (find-in (nameBit (nameAt t o)) (index-here .tree))) .before
+  pub found-leader : (o y : ℕ) → Found t o w (length ts) y → Leader v ts y
+  found-leader o y f = index-here .leader y (rw (f .leads (index-here .tree) (index-here .holds)) (find-in (nameBit (nameAt t o)) (index-here .tree)))
 
 -- ---- the five ways
 module _ (t fs : List ℕ) (v c : ℕ) (ts w : List ℕ) (l : v < length ts) where
@@ -77,6 +77,11 @@ module _ (t fs : List ℕ) (v c : ℕ) (ts w : List ℕ) (l : v < length ts) whe
               empty : s .seen ≡ []
               empty = none (s .seen) (sym (s .counted) ∙ e)
 
+      pub turned-same : (r : ℕ) → (r ≡ 0 → ⊥) → Twin t fs ts v o r → Turned t fs v c ts w (set ts v r) w c
+      turned-same r q T = record {
+        moves = λ ms w₀ s. rw (T .number) (state-same t fs ms w₀ v ts w c s l marked long (T .node) (T .before) (λ e. q (T .number ∙ e)) (ap (nameAt t) (sym eo) ∙ T .name));
+      }
+
       module _ (old : c ≡ 0 → ⊥) (y p : ℕ) (ep : p ≡ getD fs y 0 + 1) (f : Found t o w (length ts) y) where
         module _ (ms w₀ : List ℕ) (s : State t fs ms w₀ v ts w c) where
           abbrev index : Index t fs (length ms) v (s .seen) ts w
@@ -85,15 +90,6 @@ module _ (t fs : List ℕ) (v c : ℕ) (ts w : List ℕ) (l : v < length ts) whe
           found : y ≡ find (nameBit (nameHere t fs v)) (index .tree)
           found =
               f .leads (index .tree) (rw (s .long) (index .holds)) ∙ ap (λ (i : ℕ). find (nameBit (nameAt t i)) (index .tree)) eo
-
-          found-in : In y (index .tree)
-          found-in = subst (λ (i : ℕ). In i (index .tree)) (sym found) (find-in (nameBit (nameHere t fs v)) (index .tree))
-
-        pub turned-same : nameAt t o ≡ nameAt t p → Turned t fs v c ts w (set ts v (getD ts y 0)) w c
-        turned-same e = record {
-          moves = λ ms w₀ s.
-              state-same t fs ms w₀ v ts w c s l marked long old y (index ms w₀ s) (found-in ms w₀ s) (ap (nameAt t) (sym eo) ∙ e ∙ ap (nameAt t) ep);
-        }
 
         module _ (d : ℕ) (diff : NamesDiffer (nameAt t o) (nameAt t p) d) (w′ : List ℕ) (put : Put t o w (length ts) v d w′) (fit : 3 * length ts ≤ length w) where
           differ : NamesDiffer (nameHere t fs v) (nameHere t fs y) d

@@ -8,10 +8,10 @@ use Rattle.names.proofs.take_all.Statement.{statement}
 use Rattle.names.proofs.take_all.Tie as tie
 
 abbrev Inv-loop : tie.InvT-loop
-Inv-loop text firsts tags₀ work₀ count₀ v₀ tags work count v = State text firsts tags₀ work₀ v tags work count
+Inv-loop text firsts tags₀ work₀ lately₀ count₀ v₀ tags work lately count v = State text firsts tags₀ work₀ v tags work count
 
 abbrev μ-loop : tie.MeasureT-loop
-μ-loop text firsts tags₀ work₀ count₀ v₀ tags work count v = length tags₀ - v
+μ-loop text firsts tags₀ work₀ lately₀ count₀ v₀ tags work lately count v = length tags₀ - v
 
 -- The function's entry, from a turn.
 abbrev start : tie.In-loop Inv-loop μ-loop → tie.Start Inv-loop μ-loop
@@ -22,11 +22,11 @@ loop-holds c = state-start _ _ _ _
 
 take-up-requires : tie.Need-take-up-requires Inv-loop μ-loop
 take-up-requires c κs =
-    let p = start (c .before .before) .pre in
-    let s = c .before .before .before .loop .inv in
+    let p = start (c .before .before .before) .pre in
+    let s = c .before .before .before .before .loop .inv in
     record {
       fit = record { few = omega (arith, p .few, s .long); placed = omega (arith, p .placed, s .long); long = omega (arith, p .long, s .long, s .rows); short = p .short };
-      node = c .before .before .loop-test .taken;
+      node = c .before .before .before .loop-test .taken;
       marks = _;
       work = _;
       state = s;
@@ -34,7 +34,7 @@ take-up-requires c κs =
 
 -- From the end of a turn to its beginning.
 abbrev turn : tie.After-slice-known4 Inv-loop μ-loop → tie.In-loop Inv-loop μ-loop
-turn c = c .before .before .before .before .before .before .before
+turn c = c .before .before .before .before .before .before .before .before
 
 add-v : tie.Need-add-v Inv-loop μ-loop
 add-v c = omega (arith, turn c .loop-test .taken, turn c .before .loop .inv .long, start (turn c) .pre .few)

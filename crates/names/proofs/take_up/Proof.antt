@@ -1,26 +1,19 @@
 -- `names::take_up` meets its contract: glue over Turning.
-use Prim.Native.Nat.{_+_, _-_, _<_}
-use mathlib.Core.Path.{_≡_, refl, ap}
+use Prim.Native.Nat.{_+_, _-_}
+use mathlib.Core.Path.{_≡_, ap}
 use native.Mathlib.Omega.{arith}
 use lib.ListN.{getD, drop, length-set}
 use Rattle.seq.specs.Lists.{EachBelow}
 use Rattle.profile.specs.Bytes.{nameChar}
 use Rattle.profile.specs.Spans.{span}
 use Rattle.names.specs.Inner.Calls.{Name}
-use Rattle.names.proofs.Turning.{name-size, name-here, walk-pre, found-before, turned-data, turned-empty, turned-first, turned-same, turned-new}
+use Rattle.names.proofs.Turning.{name-size, name-here, turned-data, turned-empty, turned-same}
 use Rattle.names.proofs.take_up.Statement.{statement}
 use Rattle.names.proofs.take_up.Tie as tie
 
 -- The function's entry, from the call of `skip`.
 abbrev start : tie.After-skip → tie.Start
 start c = c .before .before .before .before .before .before .before .before .before
-
--- From the call of `find` to that of `skip`, and from the call of `differ` to that of `find`.
-abbrev skipped : tie.After-find → tie.After-skip
-skipped c = c .before .before .before .before
-
-abbrev found : tie.After-differ → tie.After-find
-found c = c .before .before .before
 
 byte : (c : tie.After-skip) → EachBelow 256 (start c .args .text .now)
 byte c i l = omega (arith, c .before .before .before .before .before .before .before .before .shared-slice-known .given i)
@@ -35,12 +28,9 @@ size c = name-size _ _ _ (byte c) (c .skip .ensures)
 name : (c : tie.Else2) → Name (start (c .before) .args .text .now) (c .before .before .widen .result + 1) (c .before .skip .result - (c .before .before .widen .result + 1))
 name c = name-here _ _ _ (byte (c .before)) (c .before .skip .ensures) (c .if2 .left)
 
--- The node found.
-before : (c : tie.After-find) → c .find .result < start (skipped c) .args .v
-before c = found-before _ _ _ _ _ _ (start (skipped c) .pre) (c .before .before .if3 .left) _ _ (c .find .ensures)
-
-there : (c : tie.After-differ) → c .before .widen2 .result + 1 ≡ getD (start (skipped (found c)) .args .firsts .now) (found c .find .result) 0 + 1
-there c = ap (λ k. k + 1) (c .before .widen2 .ensures)
+-- From the call of `tag_of` to the test of the size.
+abbrev sized : tie.After-tag-of → tie.Else2
+sized c = c .before .before .before .before .before
 
 mul-if1 : tie.Need-mul-if1
 mul-if1 c = omega (arith, c .before .before .before .before .pre .node, c .before .before .before .before .pre .fit .few)
@@ -83,131 +73,61 @@ returns-2 : tie.Need-returns-2
 returns-2 c =
     turned-empty _ _ _ _ _ _ (start (c .before) .pre .node) (c .before .before .before .before .if1 .left) _ _ (here (c .before)) (size (c .before)) (c .if2 .taken)
 
-cast-work : tie.Need-cast-work
-cast-work c = omega (arith, start (c .before .before) .pre .node, start (c .before .before) .pre .fit .few)
+key-requires : tie.Need-key-requires
+key-requires c κs = record { name = name (c .before); some = omega (arith, c .before .if2 .left); short = start (c .before .before) .pre .fit .short }
 
-mul-work : tie.Need-mul-work
-mul-work c = omega (arith, start (c .before .before) .pre .node, start (c .before .before) .pre .fit .few)
+mul-tag-of : tie.Need-mul-tag-of
+mul-tag-of c = omega (arith, c .before .key .ensures)
 
-slice-write-work : tie.Need-slice-write-work
-slice-write-work c = omega (arith, start (c .before .before) .pre .node, start (c .before .before) .pre .fit .long)
+element-copy-out-tag-of : tie.Need-element-copy-out-tag-of
+element-copy-out-tag-of c = c .before .key .ensures
+
+tag-of-requires : tie.Need-tag-of-requires
+tag-of-requires c κs =
+    let e = c .before .before .before .before in
+    let p = start (e .before) .pre in
+    record { name = name e; short = p .fit .short; node = p .node; few = p .fit .few; placed = p .fit .placed }
 
 mul-tags-2 : tie.Need-mul-tags-2
-mul-tags-2 c = omega (arith, start (c .before .before) .pre .node, start (c .before .before) .pre .fit .few)
+mul-tags-2 c = omega (arith, start (sized (c .before) .before) .pre .node, start (sized (c .before) .before) .pre .fit .few)
 
 slice-write-tags-2 : tie.Need-slice-write-tags-2
-slice-write-tags-2 c = start (c .before .before) .pre .node
+slice-write-tags-2 c = start (sized (c .before) .before) .pre .node
 
 same-length-2 : tie.Need-same-length-2
 same-length-2 c = simp length-set
 
-same-length-3 : tie.Need-same-length-3
-same-length-3 c = simp length-set
-
 returns-3 : tie.Need-returns-3
 returns-3 c =
-    turned-first _ _ _ _ _ _ (start (c .before .before) .pre .node) (c .before .before .before .before .before .if1 .left) _ _ (here (c .before .before)) (size (c .before .before))
-    (c .before .if2 .left) (c .if3 .taken) (omega (arith, start (c .before .before) .pre .node, start (c .before .before) .pre .fit .long))
+    let e = sized (c .before) in
+    turned-same _ _ _ _ _ _ (start (e .before) .pre .node) (e .before .before .before .before .if1 .left) _ _ (here (e .before)) (size (e .before)) (e .if2 .left) _
+    (c .if4 .taken) (c .before .tag-of .ensures .twin (c .if4 .taken))
 
-find-requires : tie.Need-find-requires
-find-requires c κs = walk-pre _ _ _ _ _ _ (start (c .before .before .before) .pre) (c .before .if3 .left) _ _ (name (c .before .before))
+mul-lately : tie.Need-mul-lately
+mul-lately c = omega (arith, c .before .before .before .before .key .ensures)
 
-mul-widen-2 : tie.Need-mul-widen-2
-mul-widen-2 c = omega (arith, before c, start (skipped c) .pre .node, start (skipped c) .pre .fit .few)
+element-write-lately : tie.Need-element-write-lately
+element-write-lately c = c .before .before .before .before .key .ensures
 
-shared-slice-read-widen-2 : tie.Need-shared-slice-read-widen-2
-shared-slice-read-widen-2 c = omega (arith, before (c .before), start (skipped (c .before)) .pre .node, start (skipped (c .before)) .pre .fit .placed)
+by-tree-requires : tie.Need-by-tree-requires
+by-tree-requires c κs =
+    let e = c .before .before .before in
+    record {
+      turn = start (e .before) .pre;
+      marked = e .before .before .before .before .if1 .left;
+      place = here (e .before);
+      name = name e;
+      some = e .if2 .left;
+    }
 
-widen-requires-2 : tie.Need-widen-requires-2
-widen-requires-2 c κs = tt
-
-add-differ : tie.Need-add-differ
-add-differ c = omega (arith, c .widen2 .ensures, c .before .shared-slice-known4 .given (c .before .before .find .result))
-
-differ-requires : tie.Need-differ-requires
-differ-requires c κs = record {
-  name = name (c .before .before .before .before .before);
-  few = start (skipped (c .before .before)) .pre .fit .short;
-  near = omega (arith, c .widen2 .ensures, c .before .shared-slice-known4 .given (c .before .before .find .result));
-}
-
-mul-tags-3 : tie.Need-mul-tags-3
-mul-tags-3 c = omega (arith, before (found (c .before)), start (skipped (found (c .before))) .pre .node, start (skipped (found (c .before))) .pre .fit .few)
-
-slice-read-tags : tie.Need-slice-read-tags
-slice-read-tags c = omega (arith, before (found (c .before .before)), start (skipped (found (c .before .before))) .pre .node)
-
-mul-tags-4 : tie.Need-mul-tags-4
-mul-tags-4 c = omega (arith, start (skipped (found (c .before .before))) .pre .node, start (skipped (found (c .before .before))) .pre .fit .few)
-
-slice-write-tags-3 : tie.Need-slice-write-tags-3
-slice-write-tags-3 c = start (skipped (found (c .before .before))) .pre .node
+same-length-3 : tie.Need-same-length-3
+same-length-3 c = c .before .before .before .before .by-tree .kept .1 .1 .1 .1 .1 .1 .0
 
 same-length-4 : tie.Need-same-length-4
-same-length-4 c = simp length-set
-
-same-length-5 : tie.Need-same-length-5
-same-length-5 c = refl
+same-length-4 c = c .before .before .before .before .by-tree .kept .1 .1 .1 .1 .1 .1 .1 .0
 
 returns-4 : tie.Need-returns-4
-returns-4 c =
-    turned-same _ _ _ _ _ _ (start s .pre .node) (s .before .before .before .if1 .left) _ _ (here s) (size s) (f .before .before .before .if2 .left)
-    (f .before .before .if3 .left) _ _ (there (c .before .before)) (f .find .ensures) (c .before .before .differ .ensures .same (c .before .if4 .taken))
-  where
-    f : tie.After-find
-    f = found (c .before .before)
-
-    s : tie.After-skip
-    s = skipped f
-
-put-requires : tie.Need-put-requires
-put-requires c κs = record {
-  walk = walk-pre _ _ _ _ _ _ (start (skipped (found (c .before .before))) .pre) (found (c .before .before) .before .before .if3 .left) _ _ (name (found (c .before .before) .before .before .before));
-  node = start (skipped (found (c .before .before))) .pre .node;
-  bit = c .before .before .differ .ensures .other (c .before .if4 .left) .few;
-}
-
--- From the end to the call of `differ`.
-abbrev compared : tie.After-slice-known5 → tie.After-differ
-compared c = c .before .before .before .before .before
-
-few : (c : tie.After-slice-known5) → start (skipped (found (compared c))) .args .count + 1 < 65537
-few c =
-    omega (
-      arith,
-      start (skipped (found (compared c))) .pre .state .few,
-      start (skipped (found (compared c))) .pre .node,
-      start (skipped (found (compared c))) .pre .fit .few,
-    )
-
-add-tags : tie.Need-add-tags
-add-tags c = omega (arith, few c)
-
-mul-tags-5 : tie.Need-mul-tags-5
-mul-tags-5 c = omega (arith, start (skipped (found (compared c))) .pre .node, start (skipped (found (compared c))) .pre .fit .few)
-
-slice-write-tags-4 : tie.Need-slice-write-tags-4
-slice-write-tags-4 c = start (skipped (found (compared c))) .pre .node
-
-add-result : tie.Need-add-result
-add-result c = omega (arith, few c)
-
-same-length-6 : tie.Need-same-length-6
-same-length-6 c = simp length-set
-
-same-length-7 : tie.Need-same-length-7
-same-length-7 c = c .before .before .put .kept .1 .1 .1 .0
-
-returns-5 : tie.Need-returns-5
-returns-5 c =
-    turned-new _ _ _ _ _ _ (start s .pre .node) (s .before .before .before .if1 .left) _ _ (here s) (size s) (f .before .before .before .if2 .left) (f .before .before .if3 .left) _ _
-    (there (compared c)) (f .find .ensures) _ (compared c .differ .ensures .other (c .before .before .before .before .if4 .left)) _ (c .before .before .put .ensures) (start s .pre .fit .long)
-  where
-    f : tie.After-find
-    f = found (compared c)
-
-    s : tie.After-skip
-    s = skipped f
+returns-4 c = c .before .before .before .before .by-tree .ensures
 
 pub take-up-spec : {M : Type 1} → statement M
 take-up-spec =
@@ -226,32 +146,17 @@ take-up-spec =
     slice-write-tags
     same-length
     returns-2
-    cast-work
-    mul-work
-    slice-write-work
+    key-requires
+    mul-tag-of
+    element-copy-out-tag-of
+    tag-of-requires
     mul-tags-2
     slice-write-tags-2
     same-length-2
-    same-length-3
     returns-3
-    find-requires
-    mul-widen-2
-    shared-slice-read-widen-2
-    widen-requires-2
-    add-differ
-    differ-requires
-    mul-tags-3
-    slice-read-tags
-    mul-tags-4
-    slice-write-tags-3
+    mul-lately
+    element-write-lately
+    by-tree-requires
+    same-length-3
     same-length-4
-    same-length-5
-    returns-4
-    put-requires
-    add-tags
-    mul-tags-5
-    slice-write-tags-4
-    add-result
-    same-length-6
-    same-length-7
-    returns-5)
+    returns-4)

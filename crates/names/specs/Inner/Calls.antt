@@ -3,10 +3,12 @@
 --   nameHere t fs y          == the name of node y
 --   Name t o z               == the name at the place o of the text has z bytes
 --   byteHere t o             == the first byte of the name at the place o: 0 where there is none
+--   inCommon t o p           == how many bytes the name at the place o has in common with what stands at the place p
 --   Compared x y r           == r is the first bit in which two names differ, or `bits` where they are the same
 --   wayOf n β w u            == the place of the link that bits β take at the inner node u
 --   linked n v q d a b w     == the rows w with a new inner node v over what is at the place q: its bit is d, the link to the leaf v at a, and what was at q at b
---   Index t fs n v seen ts w == the rows w hold a tree of the names seen at the nodes before v, each with its number in ts
+--   Index t fs n v seen ts w == the rows w hold a tree of the names seen at the nodes before v; its leaves have a number in ts
+--   Given t fs seen ts y     == the node y has the number of its name in ts
 --   State t fs ms w₀ v ts w c == the nodes before v are numbered: ts and w are what the marks ms and the work w₀ have become, and c names were seen
 -- Letters: t text, fs places of the nodes, o place, z size; x y bytes or names; n nodes, u v nodes, q place of a link, d bit; seen names seen. Assumes nothing.
 use Prim.Native.Nat.{ℕ, suc, _+_, _*_, _/_, _%_, _≤_, _<_}
@@ -15,7 +17,7 @@ use mathlib.Core.List.{List, _++_}
 use mathlib.Core.Bool.{Bool, true, cond}
 use lib.ListN.{length, getD, set, take, drop}
 use Rattle.profile.specs.Bytes.{nameChar}
-use Rattle.profile.specs.Spans.{span, nameAt}
+use Rattle.profile.specs.Spans.{span, common, nameAt}
 use Rattle.profile.specs.Tags.{known, place, tagsAfter, tagsOf}
 use Rattle.names.specs.Inner.Bits.{bitOf}
 use Rattle.names.specs.Names.{names}
@@ -48,6 +50,9 @@ nameHere t fs y = nameAt t (getD fs y 0 + 1)
 unfoldable pub byteHere : List ℕ → ℕ → ℕ
 byteHere t o = getD (nameAt t o) 0 0
 
+abbrev pub inCommon : List ℕ → ℕ → ℕ → ℕ
+inCommon t o p = common (nameAt t o) (drop p t)
+
 pub record Name (t : List ℕ) (o z : ℕ) : Type 0 where
   pub within : o + z ≤ length t
   pub is : z ≡ span nameChar (drop o t)
@@ -57,6 +62,36 @@ pub record DifferPre (t : List ℕ) (o z p : ℕ) : Type 0 where
   pub name : Name t o z
   pub few : length t ≤ 16777216
   pub near : p ≤ 4294967296
+
+-- Where r says so, two names are the same.
+pub record Alike (x y : List ℕ) (r : Bool) : Type 0 where
+  pub same : r ≡ true → x ≡ y
+
+-- ---- the names met lately
+-- A name has bytes.
+pub record KeyPre (t : List ℕ) (o z : ℕ) : Type 0 where
+  pub name : Name t o z
+  pub some : 0 < z
+  pub short : length t ≤ 16777216
+
+-- The node v, whose name is at the place o, is one of the nodes.
+pub record RecallPre (t fs ts : List ℕ) (v o z : ℕ) : Type 0 where
+  pub name : Name t o z
+  pub short : length t ≤ 16777216
+  pub node : v < length ts
+  pub few : length ts ≤ 65536
+  pub placed : length ts ≤ length fs
+
+-- A node before v that has the name at the place o, and r as its number.
+pub record Twin (t fs ts : List ℕ) (v o r : ℕ) : Type 0 where
+  pub node : ℕ
+  pub before : node < v
+  pub number : r ≡ getD ts node 0
+  pub name : nameAt t o ≡ nameHere t fs node
+
+-- r is the number of such a node, or 0.
+pub record Recalled (t fs ts : List ℕ) (v o r : ℕ) : Type 0 where
+  pub twin : (r ≡ 0 → ⊥) → Twin t fs ts v o r
 
 -- ---- the tree
 unfoldable pub wayOf : ℕ → (ℕ → Bool) → List ℕ → ℕ → ℕ
@@ -115,9 +150,12 @@ pub record Put (t : List ℕ) (o : ℕ) (w : List ℕ) (n v d : ℕ) (w′ : Lis
   pub rows : w′ ≡ cond (nameBit (nameAt t o) d) (linked n v place d (n + v) v w) (linked n v place d v (n + v) w)
 
 -- ---- the names seen
--- The node y is the first with its name.
-pub record Leader (t fs : List ℕ) (v : ℕ) (seen : List (List ℕ)) (ts : List ℕ) (y : ℕ) : Type 0 where
+-- A leaf y is a node before v that has a number.
+pub record Leader (v : ℕ) (ts : List ℕ) (y : ℕ) : Type 0 where
   pub before : y < v
+  pub numbered : getD ts y 0 ≡ 0 → ⊥
+
+pub record Given (t fs : List ℕ) (seen : List (List ℕ)) (ts : List ℕ) (y : ℕ) : Type 0 where
   pub knows : known seen (nameHere t fs y) ≡ true
   pub number : getD ts y 0 ≡ suc (place seen (nameHere t fs y))
 
@@ -132,7 +170,7 @@ pub record Index (t fs : List ℕ) (n v : ℕ) (seen : List (List ℕ)) (ts w : 
   pub apart : Apart tree
   pub told : Told (λ y. nameBit (nameHere t fs y)) tree
   pub old : (u : ℕ) → Has u tree → u < v
-  pub leader : (y : ℕ) → In y tree → Leader t fs v seen ts y
+  pub leader : (y : ℕ) → In y tree → Leader v ts y
   pub every : (x : List ℕ) → known seen x ≡ true → LeafOf t fs tree x
 
 pub record State (t fs ms w₀ : List ℕ) (v : ℕ) (ts w : List ℕ) (c : ℕ) : Type 0 where
@@ -146,6 +184,8 @@ pub record State (t fs ms w₀ : List ℕ) (v : ℕ) (ts w : List ℕ) (c : ℕ)
   pub few : c ≤ v
   -- the numbers given, and those that the later names are to have
   pub done : take v ts ++ tagsAfter seen (drop v (names t ms fs)) ≡ tagsOf (names t ms fs)
+  -- a number that is not 0 is that of the node's name
+  pub given : (y : ℕ) → y < v → (getD ts y 0 ≡ 0 → ⊥) → Given t fs seen ts y
   pub index : (c ≡ 0 → ⊥) → Index t fs (length ms) v seen ts w
 
 -- All fits.
@@ -162,6 +202,14 @@ pub record TurnPre (t fs : List ℕ) (v c : ℕ) (ts w : List ℕ) : Type 0 wher
   pub marks : List ℕ
   pub work : List ℕ
   pub state : State t fs marks work v ts w c
+
+-- And v, which has a mark, has the name of z bytes at the place o.
+pub record NamedPre (t fs : List ℕ) (o z v c : ℕ) (ts w : List ℕ) : Type 0 where
+  pub turn : TurnPre t fs v c ts w
+  pub marked : getD ts v 0 ≡ 0 → ⊥
+  pub place : o ≡ getD fs v 0 + 1
+  pub name : Name t o z
+  pub some : z ≡ 0 → ⊥
 
 -- Then v is numbered too.
 pub record Turned (t fs : List ℕ) (v c : ℕ) (ts w ts′ w′ : List ℕ) (c′ : ℕ) : Type 0 where

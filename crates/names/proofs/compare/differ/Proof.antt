@@ -1,44 +1,34 @@
 -- `names::compare::differ` meets its contract: glue over Comparing.
 use Prim.Native.Nat.{_≤_}
-use mathlib.Core.Path.{_≡_, ap, _∙_}
+use mathlib.Core.Path.{_≡_}
 use native.Mathlib.Omega.{arith}
-use lib.ListN.{drop}
-use Rattle.profile.specs.Spans.{common}
-use Rattle.names.proofs.Comparing.{shared, shared-first, found-same, found-other, name-part}
+use Rattle.names.specs.Inner.Calls.{inCommon}
+use Rattle.names.proofs.Comparing.{shared-first, found-same, found-other}
 use Rattle.names.proofs.compare.differ.Statement.{statement}
 use Rattle.names.proofs.compare.differ.Tie as tie
 
-add-end : tie.Need-add-end
-add-end c = omega (arith, c .before .pre .name .within, c .before .good)
+-- The function's entry, from the first call.
+abbrev start : tie.After-in-common → tie.Start
+start c = c .before .before
 
-sub-common : tie.Need-sub-common
-sub-common c = omega arith
+in-common-requires : tie.Need-in-common-requires
+in-common-requires c κs = c .before .pre .name
 
-part-common-start : tie.Need-part-common-start
-part-common-start c = omega arith
-
-part-common-end : tie.Need-part-common-end
-part-common-end c = omega (arith, c .before .pre .name .within)
-
-common-requires : tie.Need-common-requires
-common-requires c κs = tt
-
--- What `common` gives.
-many : (c : tie.After-common) → c .common .result ≡ shared (c .before .before .before .args .text .now) (c .before .before .before .args .place) (c .before .before .before .args .other)
-many c = c .common .ensures ∙ ap (λ w. common w (drop (c .before .before .before .args .other) (c .before .before .before .args .text .now))) (name-part _ _ _ (c .before .before .before .pre .name .is))
+many : (c : tie.After-in-common) → c .in-common .result ≡ inCommon (start c .args .text .now) (start c .args .place) (start c .args .other)
+many c = c .in-common .ensures
 
 -- No more than the name has.
-within : (c : tie.After-common) → c .common .result ≤ c .before .before .before .args .size
-within c = omega (arith, many c, shared-first (c .before .before .before .args .text .now) (c .before .before .before .args .place) (c .before .before .before .args .other), c .before .before .before .pre .name .is)
+within : (c : tie.After-in-common) → c .in-common .result ≤ start c .args .size
+within c = omega (arith, many c, shared-first (start c .args .text .now) (start c .args .place) (start c .args .other), start c .pre .name .is)
 
 add-name-byte : tie.Need-add-name-byte
-add-name-byte c = omega (arith, within c, c .before .before .before .pre .name .within, c .before .before .before .good)
+add-name-byte c = omega (arith, within c, start c .pre .name .within, start c .good)
 
 name-byte-requires : tie.Need-name-byte-requires
 name-byte-requires c κs = tt
 
 add-name-byte-2 : tie.Need-add-name-byte-2
-add-name-byte-2 c = omega (arith, within (c .before), c .before .before .before .before .pre)
+add-name-byte-2 c = omega (arith, within (c .before), start (c .before) .pre)
 
 name-byte-requires-2 : tie.Need-name-byte-requires-2
 name-byte-requires-2 c κs = tt
@@ -47,28 +37,24 @@ returns : tie.Need-returns
 returns c = found-same _ _ _ _ _ _ (many (c .before .before .before)) (c .before .before .name-byte .ensures) (c .before .name-byte2 .ensures) (c .if1 .taken)
 
 mul-result : tie.Need-mul-result
-mul-result c = omega (arith, within (c .before .before .before), c .before .before .before .before .before .before .pre)
+mul-result c = omega (arith, within (c .before .before .before), start (c .before .before .before) .pre)
 
 first-bit-requires : tie.Need-first-bit-requires
 first-bit-requires c κs = c .if1 .left
 
 add-result : tie.Need-add-result
-add-result c = omega (arith, within (c .before .before .before .before), c .before .before .before .before .before .before .before .pre, c .first-bit .ensures .small)
+add-result c = omega (arith, within (c .before .before .before .before), start (c .before .before .before .before) .pre, c .first-bit .ensures .small)
 
 returns-2 : tie.Need-returns-2
 returns-2 c =
     found-other _ _ _ _ _ _ (many (c .before .before .before .before)) (c .before .before .before .name-byte .ensures) (c .before .before .name-byte2 .ensures) _
-    (c .before .before .before .before .before .before .before .pre .few) (c .first-bit .ensures)
+    (start (c .before .before .before .before) .pre .few) (c .first-bit .ensures)
 
 pub differ-spec : {M : Type 1} → statement M
 differ-spec =
     tie.close
     (tie.spec
-    add-end
-    sub-common
-    part-common-start
-    part-common-end
-    common-requires
+    in-common-requires
     add-name-byte
     name-byte-requires
     add-name-byte-2
