@@ -225,10 +225,10 @@ pub(crate) fn bare_close(
         return at;
     }
     let top = depth - 1;
-    let from = starts[top];
+    let begun = starts[top];
     let size = sizes[top];
-    let name = at + 2;
-    let end = name + size;
+    let here = at + 2;
+    let end = here + size;
     if text.len() <= end {
         return at;
     }
@@ -241,7 +241,7 @@ pub(crate) fn bare_close(
     if text[end] != b'>' {
         return at;
     }
-    if bytes::common(&text[from..from + size], text, name) != size {
+    if bytes::common(&text[begun..begun + size], text, here) != size {
         return at;
     }
     end + 1

@@ -29,11 +29,11 @@ returns c = bare-none _ _ _ _ _
 sub-top : tie.Need-sub-top
 sub-top c = omega (arith, c .if1 .left)
 
-mul-from : tie.Need-mul-from
-mul-from c = omega (arith, start c .pre .deep)
+mul-begun : tie.Need-mul-begun
+mul-begun c = omega (arith, start c .pre .deep)
 
-element-copy-out-from : tie.Need-element-copy-out-from
-element-copy-out-from c = omega (arith, start c .pre .deep, c .if1 .left)
+element-copy-out-begun : tie.Need-element-copy-out-begun
+element-copy-out-begun c = omega (arith, start c .pre .deep, c .if1 .left)
 
 mul-size : tie.Need-mul-size
 mul-size c = omega (arith, start (c .before) .pre .deep)
@@ -41,8 +41,8 @@ mul-size c = omega (arith, start (c .before) .pre .deep)
 element-copy-out-size : tie.Need-element-copy-out-size
 element-copy-out-size c = omega (arith, start (c .before) .pre .deep, c .before .if1 .left)
 
-add-name : tie.Need-add-name
-add-name c = omega (arith, start (opened c) .pre .place, start (opened c) .pre .short)
+add-here : tie.Need-add-here
+add-here c = omega (arith, start (opened c) .pre .place, start (opened c) .pre .short)
 
 add-end : tie.Need-add-end
 add-end c = omega (arith, start (opened c) .pre .place, start (opened c) .pre .short, within (opened c))
@@ -104,11 +104,11 @@ bare-close-spec =
     (tie.spec
     returns
     sub-top
-    mul-from
-    element-copy-out-from
+    mul-begun
+    element-copy-out-begun
     mul-size
     element-copy-out-size
-    add-name
+    add-here
     add-end
     returns-2
     shared-slice-read-if3
