@@ -1,18 +1,27 @@
 /* sq_read in plain C: a pass that judges the text and writes nothing, a pass that writes the tree but for the numbers of the names, and then these numbers. */
 #include "plain.h"
 
-/* ---- classes: the order makes each set of bytes that is asked for a range */
-enum { NO_CHAR, LESS, AMPERSAND, BRACKET, GREATER, WHITE, OTHER, DIGIT, LETTER, HYPHEN };
+/* ---- classes: each is a power of two, and a set of classes is their sum */
+enum { NO_CHAR = 1, LESS = 2, AMPERSAND = 4, BRACKET = 8, GREATER = 16, WHITE = 32, OTHER = 64, DIGIT = 128, LETTER = 256, HYPHEN = 512 };
+enum { NAMECHARS = DIGIT + LETTER + HYPHEN, PLAINS = WHITE + OTHER + NAMECHARS, COMMENTEDS = LESS + AMPERSAND + BRACKET + GREATER + WHITE + OTHER + DIGIT + LETTER };
 
-static const uint8_t classes[256] = {
-    0, 0, 0, 0, 0, 0, 0, 0, 0, 5, 5, 0, 0, 5, 0, 0, /* tab, line feed, carriage return */
-    0, 0, 0, 0, 0, 0, 0, 0, 0, 0, 0, 0, 0, 0, 0, 0, /**/
-    5, 6, 6, 6, 6, 6, 2, 6, 6, 6, 6, 6, 6, 9, 7, 6, /*   ! " # $ % & ' ( ) * + , - . / */
-    7, 7, 7, 7, 7, 7, 7, 7, 7, 7, 8, 6, 1, 6, 4, 6, /* 0 1 2 3 4 5 6 7 8 9 : ; < = > ? */
-    6, 8, 8, 8, 8, 8, 8, 8, 8, 8, 8, 8, 8, 8, 8, 8, /* @ A B C D E F G H I J K L M N O */
-    8, 8, 8, 8, 8, 8, 8, 8, 8, 8, 8, 6, 6, 3, 6, 8, /* P Q R S T U V W X Y Z [ \ ] ^ _ */
-    6, 8, 8, 8, 8, 8, 8, 8, 8, 8, 8, 8, 8, 8, 8, 8, /* ` a b c d e f g h i j k l m n o */
-    8, 8, 8, 8, 8, 8, 8, 8, 8, 8, 8, 6, 6, 6, 6, 6, /* p q r s t u v w x y z { | } ~ DEL */
+static const uint32_t classes[256] = {
+    1, 1, 1, 1, 1, 1, 1, 1, 1, 32, 32, 1, 1, 32, 1, 1, /* tab, line feed, carriage return */
+    1, 1, 1, 1, 1, 1, 1, 1, 1, 1, 1, 1, 1, 1, 1, 1, /**/
+    32, 64, 64, 64, 64, 64, 4, 64, 64, 64, 64, 64, 64, 512, 128, 64, /*   ! " # $ % & ' ( ) * + , - . / */
+    128, 128, 128, 128, 128, 128, 128, 128, 128, 128, 256, 64, 2, 64, 16, 64, /* 0 1 2 3 4 5 6 7 8 9 : ; < = > ? */
+    64, 256, 256, 256, 256, 256, 256, 256, 256, 256, 256, 256, 256, 256, 256, 256, /* @ A B C D E F G H I J K L M N O */
+    256, 256, 256, 256, 256, 256, 256, 256, 256, 256, 256, 64, 64, 8, 64, 256, /* P Q R S T U V W X Y Z [ \ ] ^ _ */
+    64, 256, 256, 256, 256, 256, 256, 256, 256, 256, 256, 256, 256, 256, 256, 256, /* ` a b c d e f g h i j k l m n o */
+    256, 256, 256, 256, 256, 256, 256, 256, 256, 256, 256, 64, 64, 64, 64, 64, /* p q r s t u v w x y z { | } ~ DEL */
+    1, 1, 1, 1, 1, 1, 1, 1, 1, 1, 1, 1, 1, 1, 1, 1,
+    1, 1, 1, 1, 1, 1, 1, 1, 1, 1, 1, 1, 1, 1, 1, 1,
+    1, 1, 1, 1, 1, 1, 1, 1, 1, 1, 1, 1, 1, 1, 1, 1,
+    1, 1, 1, 1, 1, 1, 1, 1, 1, 1, 1, 1, 1, 1, 1, 1,
+    1, 1, 1, 1, 1, 1, 1, 1, 1, 1, 1, 1, 1, 1, 1, 1,
+    1, 1, 1, 1, 1, 1, 1, 1, 1, 1, 1, 1, 1, 1, 1, 1,
+    1, 1, 1, 1, 1, 1, 1, 1, 1, 1, 1, 1, 1, 1, 1, 1,
+    1, 1, 1, 1, 1, 1, 1, 1, 1, 1, 1, 1, 1, 1, 1, 1,
 };
 
 typedef struct bytes {
@@ -20,11 +29,53 @@ typedef struct bytes {
     size_t length;
 } bytes;
 
-/* The first place from `at` on whose class is outside low to high, or the length. */
-static size_t skip(bytes text, size_t at, uint32_t low, uint32_t high) {
-    while (at < text.length && classes[text.at[at]] - low <= high - low)
+/* The first place from `at` on whose class is none of the set, or the length. */
+static size_t skip(bytes text, size_t at, uint32_t set) {
+    while (at < text.length && (classes[text.at[at]] & set) != 0)
         at++;
     return at;
+}
+
+static int is_white(uint8_t byte) {
+    return byte == ' ' || byte == '\t' || byte == '\r' || byte == '\n';
+}
+
+static size_t white(bytes text, size_t at) {
+    while (at < text.length && is_white(text.at[at]))
+        at++;
+    return at;
+}
+
+/* The first place from `at` on at which the byte stands, or the length: four bytes a turn. */
+static size_t find(bytes text, size_t at, uint8_t byte) {
+    for (; at < text.length && text.length - at >= 4; at += 4) {
+        if (text.at[at] == byte)
+            return at;
+        if (text.at[at + 1] == byte)
+            return at + 1;
+        if (text.at[at + 2] == byte)
+            return at + 2;
+        if (text.at[at + 3] == byte)
+            return at + 3;
+    }
+    while (at < text.length && text.at[at] != byte)
+        at++;
+    return at;
+}
+
+/* The first place from `at` on with a byte above 32, or the length. */
+static size_t rise(bytes text, size_t at) {
+    while (at < text.length && text.at[at] <= ' ')
+        at++;
+    return at;
+}
+
+/* How many of `size` bytes are the same from two places on. */
+static size_t common(bytes text, size_t at, size_t other, size_t size) {
+    size_t i = 0;
+    while (i < size && other + i < text.length && text.at[at + i] == text.at[other + i])
+        i++;
+    return i;
 }
 
 static int is(bytes text, size_t at, uint8_t byte) {
@@ -66,7 +117,10 @@ static const char *reference_at(bytes text, size_t at) {
 }
 
 static piece data_at(bytes text, size_t from) {
-    size_t mid = skip(text, from, WHITE, WHITE), at = skip(text, mid, WHITE, HYPHEN), run = from;
+    size_t mid = white(text, from), run = from;
+    if (is(text, mid, '<'))
+        return made(DATA, 1, mid, mid);
+    size_t at = skip(text, mid, PLAINS);
     while (at < text.length && text.at[at] != '<') {
         uint32_t class = classes[text.at[at]];
         size_t after = at + 1;
@@ -78,7 +132,7 @@ static piece data_at(bytes text, size_t from) {
         } else if (class == NO_CHAR || (class == GREATER && at >= run + 2 && text.at[at - 1] == ']' && text.at[at - 2] == ']')) {
             return made(DATA, 0, mid, at);
         }
-        at = skip(text, after, WHITE, HYPHEN);
+        at = skip(text, after, PLAINS);
     }
     return made(DATA, 1, mid, at);
 }
@@ -89,7 +143,7 @@ static piece comment_at(bytes text, size_t from) {
     if (at < from + 4)
         return made(COMMENT, 0, at, at);
     for (;;) {
-        at = skip(text, at, LESS, LETTER);
+        at = skip(text, at, COMMENTEDS);
         if (!is(text, at, '-'))
             return made(COMMENT, 0, at, at);
         if (is(text, at + 1, '-'))
@@ -100,7 +154,7 @@ static piece comment_at(bytes text, size_t from) {
 
 /* From `<` and a letter on. */
 static piece start_at(bytes text, size_t from) {
-    size_t mid = skip(text, from + 1, DIGIT, HYPHEN), at = skip(text, mid, WHITE, WHITE);
+    size_t mid = skip(text, from + 1, NAMECHARS), at = white(text, mid);
     if (is(text, at, '>'))
         return made(START, 1, mid, at + 1);
     if (!is(text, at, '/'))
@@ -110,9 +164,9 @@ static piece start_at(bytes text, size_t from) {
 
 /* From `</` on. */
 static piece close_at(bytes text, size_t from) {
-    if (skip(text, from + 2, LETTER, LETTER) == from + 2)
+    if (from + 2 >= text.length || classes[text.at[from + 2]] != LETTER)
         return made(CLOSE, 0, from + 2, from + 2);
-    size_t mid = skip(text, from + 2, DIGIT, HYPHEN), at = skip(text, mid, WHITE, WHITE);
+    size_t mid = skip(text, from + 2, NAMECHARS), at = white(text, mid);
     return is(text, at, '>') ? made(CLOSE, 1, mid, at + 1) : made(CLOSE, 0, mid, at);
 }
 
@@ -138,12 +192,12 @@ static sq_reply reply(uint32_t refusal, size_t place, size_t total) {
     return r;
 }
 
-/* The first place, from `at` on, at which the name there, up to `end`, is not the open one; `end` where it is. */
-static size_t differs(bytes text, size_t at, size_t end, size_t name, size_t size) {
-    size_t i = 0;
-    while (i < size && at + i < end && text.at[at + i] == text.at[name + i])
-        i++;
-    return at + i;
+/* The place behind the end tag of the name that is open, where it stands at a place without white space; else the place itself. */
+static size_t bare_close(bytes text, size_t at, size_t name, size_t size) {
+    size_t end = at + 2 + size;
+    if (end >= text.length || text.at[at] != '<' || text.at[at + 1] != '/' || text.at[end] != '>' || common(text, name, at + 2, size) != size)
+        return at;
+    return end + 1;
 }
 
 /* SQ_OK with the number of nodes, or the refusal. */
@@ -152,6 +206,13 @@ static sq_reply judge(bytes text) {
     size_t at = 0, depth = 0, met = 0;
     int solid = 0, rooted = 0;
     for (;;) {
+        size_t closed = depth == 0 ? at : bare_close(text, at, places[depth - 1], sizes[depth - 1]);
+        if (at < closed) {
+            at = closed;
+            depth--;
+            solid = 0;
+            continue;
+        }
         piece p = piece_at(text, at);
         switch (p.kind) {
         case END:
@@ -188,9 +249,9 @@ static sq_reply judge(bytes text) {
             if (depth == 0)
                 return reply(SQ_MARKUP, at + 1, 0);
             {
-                size_t size = sizes[depth - 1], place = differs(text, at + 2, p.mid, places[depth - 1], size);
-                if (place < p.mid || size != p.mid - (at + 2))
-                    return reply(SQ_MARKUP, place, 0);
+                size_t size = sizes[depth - 1], same = common(text, places[depth - 1], at + 2, size);
+                if (same != size || p.mid != at + 2 + size)
+                    return reply(SQ_MARKUP, at + 2 + same, 0);
             }
             depth--;
             solid = 0;
@@ -204,7 +265,7 @@ static sq_reply judge(bytes text) {
     }
 }
 
-/* ---- the second pass, over a text that was judged */
+/* ---- the second pass, over a text that was judged: a piece is told by its last byte */
 typedef struct tree {
     uint32_t *parents, *tags, *firsts, *lasts;
 } tree;
@@ -230,12 +291,32 @@ static void hold(data *d, piece p, size_t at) {
     d->solid |= p.mid < p.end;
 }
 
+/* The place of the next two hyphens. */
+static size_t dashes(bytes text, size_t at) {
+    while (at + 1 < text.length && (text.at[at] != '-' || text.at[at + 1] != '-'))
+        at++;
+    return at;
+}
+
+static piece skim_at(bytes text, size_t at) {
+    if (at >= text.length)
+        return made(END, 1, at, at);
+    if (text.at[at] != '<') {
+        size_t mid = rise(text, at);
+        return made(DATA, 1, mid, find(text, mid, '<'));
+    }
+    if (is(text, at + 1, '!'))
+        return made(COMMENT, 1, at, dashes(text, at + 4) + 3);
+    size_t last = find(text, at + 1, '>');
+    return made(is(text, at + 1, '/') ? CLOSE : text.at[last - 1] == '/' ? EMPTY : START, 1, at, last + 1);
+}
+
 /* Parents, places, and in tags 1 for an element and 0 for data. */
 static void build(bytes text, tree t) {
     size_t open[MOST_LEVELS], at = 0, depth = 0, met = 0;
     data held = {0, 0, 0, 0};
     for (;;) {
-        piece p = piece_at(text, at);
+        piece p = skim_at(text, at);
         if (p.kind == END)
             return;
         if (p.kind == DATA) {
@@ -270,7 +351,7 @@ typedef struct names {
 } names;
 
 static size_t name_end(bytes text, size_t at) {
-    return skip(text, at, DIGIT, HYPHEN);
+    return skip(text, at, NAMECHARS);
 }
 
 static int bit_at(bytes text, size_t name, size_t end, uint32_t bit) {
@@ -279,7 +360,7 @@ static int bit_at(bytes text, size_t name, size_t end, uint32_t bit) {
 }
 
 /* The leader to whose leaf a name leads. */
-static uint32_t find(const names *n, size_t name, size_t end) {
+static uint32_t leaf_of(const names *n, size_t name, size_t end) {
     uint32_t link = n->left[0];
     while (link % 2 == 1)
         link = bit_at(n->text, name, end, n->bits[link / 2]) ? n->right[link / 2] : n->left[link / 2];
@@ -305,7 +386,7 @@ static void put_in(const names *n, uint32_t v, size_t name, size_t end, uint32_t
 }
 
 static uint32_t name_byte(bytes text, size_t at) {
-    return at < text.length && classes[text.at[at]] >= DIGIT ? text.at[at] : 0;
+    return at < text.length && (classes[text.at[at]] & NAMECHARS) != 0 ? text.at[at] : 0;
 }
 
 static uint32_t lowest(uint32_t byte) {
@@ -318,10 +399,9 @@ static uint32_t lowest(uint32_t byte) {
 }
 
 /* The leader of v's name: v itself where the name is new, which is then put in. */
-static uint32_t leader_of(const names *n, uint32_t v) {
-    size_t name = n->firsts[v] + 1, end = name_end(n->text, name);
-    uint32_t found = find(n, name, end);
-    size_t other = n->firsts[found] + 1, same = differs(n->text, name, end, other, end - name) - name;
+static uint32_t leader_of(const names *n, uint32_t v, size_t name, size_t end) {
+    uint32_t found = leaf_of(n, name, end);
+    size_t other = n->firsts[found] + 1, same = common(n->text, name, other, end - name);
     uint32_t apart = name_byte(n->text, name + same) ^ name_byte(n->text, other + same);
     if (apart == 0)
         return found;
@@ -329,13 +409,34 @@ static uint32_t leader_of(const names *n, uint32_t v) {
     return v;
 }
 
+/* The names met lately, each node at the key of its name, are asked before the tree while they are few. */
+enum { FEW = 256 };
+
+static uint32_t key_of(bytes text, size_t name, size_t end) {
+    return (5u * text.at[name] + 17u * text.at[end - 1] + (uint32_t)(end - name)) % FEW;
+}
+
+static int same_name(bytes text, size_t name, size_t end, size_t other) {
+    return common(text, name, other, end - name) == end - name && name_byte(text, other + (end - name)) == 0;
+}
+
 static void number(bytes text, tree t, size_t nodes, uint32_t *work) {
     names n = {text, t.firsts, work, work + nodes, work + 2 * nodes};
-    uint32_t count = 1;
+    uint32_t lately[FEW] = {0}, count = 1;
     work[0] = 0;
+    t.tags[0] = 1;
     for (uint32_t v = 1; v < nodes; v++)
         if (t.tags[v] != 0) {
-            uint32_t leader = leader_of(&n, v);
+            size_t name = t.firsts[v] + 1, end = name_end(text, name);
+            if (count < FEW) {
+                uint32_t *guess = &lately[key_of(text, name, end)];
+                if (t.tags[*guess] != 0 && same_name(text, name, end, t.firsts[*guess] + 1)) {
+                    t.tags[v] = t.tags[*guess];
+                    continue;
+                }
+                *guess = v;
+            }
+            uint32_t leader = leader_of(&n, v, name, end);
             t.tags[v] = leader == v ? ++count : t.tags[leader];
         }
 }

@@ -1,7 +1,7 @@
 -- The loops of `skip`, `find` and `rise` (Run) and of `common` (Match): at each place, what is left of what was asked for. Assumes nothing.
 -- Letters: t text, w word, f test of a byte, o where the loop began, i where it is.
 use Prim.Native.Nat.{ℕ, suc, _+_, _≤_, _<_}
-use mathlib.Core.Path.{_≡_, refl, sym, ap, _∙_}
+use mathlib.Core.Path.{_≡_, refl, sym, ap, subst, _∙_}
 use mathlib.Core.List.{List}
 use mathlib.Core.Bool.{Bool, true, false}
 use native.Mathlib.Numerals.{add-one}
@@ -20,6 +20,13 @@ run-start f t o = record { same = refl }
 module _ (f : ℕ → Bool) (t : List ℕ) (o i : ℕ) (r : Run f t o i) where
   pub run-step : i < length t → f (getD t i 0) ≡ true → Run f t o (i + 1)
   run-step l e = record { same = rw (add-one i) (omega (arith, r .same, span-step f t i l e)) }
+
+  pub run-on : i < length t → f (getD t i 0) ≡ true → (j : ℕ) → j ≡ i + 1 → Run f t o j
+  run-on l e j q = subst (Run f t o) (sym q) (run-step l e)
+
+  -- what is found from there on is what was asked for
+  pub run-rest : (r : ℕ) → r ≡ i + span f (drop i t) → r ≡ o + span f (drop o t)
+  run-rest r′ e = e ∙ r .same
 
   pub run-stop : i < length t → f (getD t i 0) ≡ false → i ≡ o + span f (drop o t)
   run-stop l e = omega (arith, r .same, span-stop f t i l e)

@@ -97,8 +97,8 @@ pub fn white(text: &[u8], at: usize) -> usize
     i
 }
 
-// The first place from `at` on at which the byte x stands, or the end of the text; `at` itself past the end.
-pub fn find(text: &[u8], at: usize, x: u8) -> usize
+// The first place from `at` on at which the byte x stands, or the end of the text; `at` itself past the end. A byte a turn.
+fn find_short(text: &[u8], at: usize, x: u8) -> usize
     ensures { λ r. ⌜ r ≡ at + spans.span (spans.other x) (drop at (now (text .entry))) ⌝ }
 {
     let mut place = at;
@@ -109,6 +109,32 @@ pub fn find(text: &[u8], at: usize, x: u8) -> usize
         place += 1;
     }
     place
+}
+
+// The same, four bytes a turn.
+pub fn find(text: &[u8], at: usize, x: u8) -> usize
+    ensures { λ r. ⌜ r ≡ at + spans.span (spans.other x) (drop at (now (text .entry))) ⌝ }
+{
+    let mut i = at;
+    while i < text.len() {
+        if text.len() - i < 4 {
+            return find_short(text, i, x);
+        }
+        if text[i] == x {
+            return i;
+        }
+        if text[i + 1] == x {
+            return i + 1;
+        }
+        if text[i + 2] == x {
+            return i + 2;
+        }
+        if text[i + 3] == x {
+            return i + 3;
+        }
+        i += 4;
+    }
+    i
 }
 
 // The first place from `at` on at which a byte above 32 stands, or the end of the text; `at` itself past the end.
