@@ -221,21 +221,24 @@ pub(crate) fn bare_close(
     requires { ⌜ BarePre (now text) «at» depth (now starts) (now sizes) ⌝ }
     ensures { λ r. ⌜ Bare (now (text .entry)) «at» depth (now (starts .entry)) (now (sizes .entry)) r ⌝ }
 {
-    if depth == 0 {
-        return at;
-    }
-    let top = depth - 1;
-    let begun = starts[top];
-    let size = sizes[top];
     let here = at + 2;
-    let end = here + size;
-    if text.len() <= end {
+    if text.len() < here {
         return at;
     }
     if text[at] != b'<' {
         return at;
     }
     if text[at + 1] != b'/' {
+        return at;
+    }
+    if depth == 0 {
+        return at;
+    }
+    let top = depth - 1;
+    let begun = starts[top];
+    let size = sizes[top];
+    let end = here + size;
+    if text.len() <= end {
         return at;
     }
     if text[end] != b'>' {
