@@ -1,6 +1,6 @@
 pub mod Laws
 mod Classes
-mod Reading
+pub mod Reading
 mod Data
 mod Comments
 mod References

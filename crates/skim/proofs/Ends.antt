@@ -5,7 +5,7 @@
 --   tag-told, close-told     of a whole tag: it ends behind its first `>`, and the bytes after its `<` and before its `>` tell its kind
 -- Letters: t u rows of bytes, x y z bytes, k brackets, n s sizes of a name and of the white space after it.
 use Prim.Native.Nat.{ℕ, zero, suc, zero-le, _+_, _≤_, _<_}
-use mathlib.Core.Path.{_≡_, refl, sym, ap, ap₂, subst, _∙_}
+use mathlib.Core.Path.{_≡_, refl, sym, ap, ap₂, _∙_}
 use mathlib.Core.Logic.{⊎-elim}
 use mathlib.Core.List.{List, [], _∷_, _++_}
 use mathlib.Core.Bool.{Bool, true, false, not, cond, _&&_, false≢true}
@@ -18,7 +18,7 @@ use borrow.Author.Tests.{eqb-true, leb-true, not-true}
 use Rattle.seq.specs.Below.{everyBelow}
 use Rattle.seq.specs.Lists.{everyOf}
 use Rattle.seq.proofs.Laws.Below.{every-at}
-use Rattle.seq.proofs.Laws.Bools.{bool-cases, bool-false, bool-not-both, and-left, and-right, and-both, and-false-left, not-at}
+use Rattle.seq.proofs.Laws.Bools.{bool-cases, bool-false, bool-not-both, and-left, and-both, and-false-left, not-at}
 use Rattle.profile.specs.Bytes.{'&', '-', '/', semicolon, '<', '>', char, white, nameStart, nameChar, dataChar, startsWith}
 use Rattle.profile.specs.Spans.{span, other, low, common}
 use Rattle.profile.specs.Machine.{Brackets, b0, runByte, runNext}

@@ -20,8 +20,9 @@ use Rattle.profile.specs.Pieces as pieces
 use Rattle.profile.proofs.Laws.Spans.{span-le}
 use Rattle.markup.specs.declared.Piece.{Piece}
 use Rattle.markup.specs.Pieces.{pieceFrom}
+use Rattle.markup.proofs.Reading.{row-at}
 use Rattle.skim.specs.Skim.{until, skimData, skimComment, tagKind, skimTag, skimOf, skimAt}
-use Rattle.skim.proofs.Rows.{row-at, until-le}
+use Rattle.skim.proofs.Rows.{until-le}
 
 abbrev pub skimmed : ℕ → ℕ → ℕ → Piece
 skimmed k m e = record { kind = k; whole = true; middle = m; end = e }

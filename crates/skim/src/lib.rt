@@ -13,18 +13,20 @@ fn dashes(text: &[u8], at: usize) -> usize
     ensures { λ r. ⌜ r ≡ at + until ('-' ∷ '-' ∷ []) (drop at (now (text .entry))) ⌝ }
 {
     let mut i = at;
-    while i < text.len() {
+    loop {
+        i = bytes::find(text, i, b'-');
+        if text.len() <= i {
+            return i;
+        }
         let next = i + 1;
-        if text[i] == b'-' {
-            if next < text.len() {
-                if text[next] == b'-' {
-                    return i;
-                }
-            }
+        if text.len() <= next {
+            return next;
+        }
+        if text[next] == b'-' {
+            return i;
         }
         i = next;
     }
-    i
 }
 
 // The tag of which the `<` stands at a place.
