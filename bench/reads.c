@@ -1,5 +1,5 @@
-/* Prints how long a whole sq_read takes, as a ratio to the same algorithm in plain C, in one process; with EXPAT, how many times as long expat takes as plain C. Each figure is the
- * quickest of several turns, in which the two are called one after the other. Then how a read grows with its text. */
+/* Prints how long a whole sq_read takes, as a ratio to the same algorithm in plain C, in one process; with EXPAT, how many times as long expat takes as sq_read, or as plain C where
+ * PLAIN_ALONE says that there is no library to call. Each figure is the quickest of several turns, in which the two are called one after the other. Then how a read grows with its text. */
 #include "plain.h"
 #include "texts.h"
 
@@ -17,7 +17,16 @@ typedef struct lent_tree {
     uint32_t parents[MOST_NODES], tags[MOST_NODES], firsts[MOST_NODES], lasts[MOST_NODES], work[3 * MOST_NODES];
 } lent_tree;
 
-static lent_tree plain_tree;
+/* ---- the reader that the other one is compared with */
+#if defined EXPAT && !defined PLAIN_ALONE
+#define BASE "proved"
+#define base_read sq_read
+#else
+#define BASE "plain"
+#define base_read plain_read
+#endif
+
+static lent_tree base_tree;
 
 #define LENT(t) (t).parents, MOST_NODES, (t).tags, MOST_NODES, (t).firsts, MOST_NODES, (t).lasts, MOST_NODES, (t).work, 3 * MOST_NODES
 
@@ -38,7 +47,7 @@ static void stop(const char *why) {
 #include <expat.h>
 
 #define OTHER "expat"
-#define MEASURED plain
+#define MEASURED base
 
 static size_t elements, characters;
 
@@ -71,7 +80,7 @@ static void other(size_t length) {
 static int same(size_t nodes) {
     size_t tagged = 0;
     for (size_t v = 0; v < nodes; v++)
-        tagged += plain_tree.tags[v] != 0;
+        tagged += base_tree.tags[v] != 0;
     return tagged == elements;
 }
 #else
@@ -86,7 +95,7 @@ static void other(size_t length) {
 }
 
 static int same(size_t nodes) {
-    const lent_tree *a = &plain_tree, *b = &other_tree;
+    const lent_tree *a = &base_tree, *b = &other_tree;
     if (other_reply.refusal != SQ_OK || other_reply.place != 0 || other_reply.total != nodes)
         return 0;
     for (size_t v = 0; v < MOST_NODES; v++)
@@ -100,7 +109,7 @@ static int same(size_t nodes) {
 #endif
 
 typedef struct figure {
-    double plain, other;
+    double base, other;
     size_t length, nodes;
 } figure;
 
@@ -112,15 +121,15 @@ static figure measure(int shape, size_t nodes, size_t bytes) {
         double start = now();
         other(best.length);
         double middle = now();
-        sq_reply r = plain_read(text, best.length, LENT(plain_tree));
+        sq_reply r = base_read(text, best.length, LENT(base_tree));
         double end = now();
         if (r.refusal != SQ_OK)
-            stop("plain C refuses");
+            stop(BASE " refuses");
         best.nodes = r.total;
         if (middle - start < best.other)
             best.other = middle - start;
-        if (end - middle < best.plain)
-            best.plain = end - middle;
+        if (end - middle < best.base)
+            best.base = end - middle;
     }
     if (!same(best.nodes))
         stop("the two read different trees");
@@ -129,14 +138,14 @@ static figure measure(int shape, size_t nodes, size_t bytes) {
 
 static double print(int shape, size_t nodes, size_t bytes) {
     figure f = measure(shape, nodes, bytes);
-    printf("%-24s %9lu %6lu %11.1f %11.1f %7.2f %9.2f\n", text_names[shape], (unsigned long)f.length, (unsigned long)f.nodes, f.other, f.plain, f.other / f.plain,
+    printf("%-24s %9lu %6lu %11.1f %11.1f %7.2f %9.2f\n", text_names[shape], (unsigned long)f.length, (unsigned long)f.nodes, f.other, f.base, f.other / f.base,
            f.MEASURED * 1e3 / (double)f.length);
     return f.MEASURED;
 }
 
 int main(void) {
     double took[SHAPES][SIZES];
-    printf("text                         bytes  nodes %8s us    plain us   ratio ns a byte\n", OTHER);
+    printf("text                         bytes  nodes %8s us %8s us   ratio ns a byte\n", OTHER, BASE);
     print(SCHEDULE, MOST_NODES, 2 * MB);
     print(DISTINCT, MOST_NODES, 1 * MB);
     print(NESTED, MOST_NODES, 1 * MB);
