@@ -3,7 +3,8 @@
 --   bit-in, bit-past       a name's bits, and those past its end
 --   byte-next              byte k of a name is the first byte of what stands k bytes later
 --   found-same, found-other   what `differ` finds
---   found-whole            where all bytes of the one are in common, and the other ends there, `same` says that they are the same
+--   found-whole            what `same` finds: two names are the same where all bytes of the one are in common and the other ends there
+--   part-shared            what `in_common` gives
 -- Letters: t text, o p places of two names, x y the names, k how many bytes they have in common. Assumes nothing.
 use Prim.Native.Nat.{ℕ, _+_, _*_, _-_, _/_, _%_, _≤_, _<_}
 use mathlib.Core.Path.{_≡_, refl, sym, ap, _∙_}
