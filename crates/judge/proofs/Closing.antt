@@ -21,12 +21,12 @@ use Rattle.profile.proofs.Laws.Heads.{common-whole}
 use Rattle.profile.proofs.TagTurns.{close-bare}
 use Rattle.markup.specs.declared.Piece.{Piece}
 use Rattle.markup.specs.Pieces.{pieceFrom, pieceAt}
-use Rattle.judge.specs.Inner.{nameIn, openPlace, placeOf, goesOn, closeTurn, BarePre, Closes, Bare, turnOf, Told}
+use Rattle.judge.specs.Inner.{nameIn, openPlace, placeOf, goesOn, BarePre, Closes, Bare, turnOf, Told}
 use Rattle.judge.specs.declared.turns.State.{State}
 use Rattle.judge.specs.declared.turns.Turn.{Turn}
 use Rattle.judge.proofs.Numbers.{close-on}
 use Rattle.judge.proofs.Taking.{ending-told}
-use Rattle.judge.proofs.Walk.{state, Walk, walk-asks, walk-goes, walk-less}
+use Rattle.judge.proofs.Walk.{state, Walk, walk-asks, walk-goes}
 
 module _ (T : List ℕ) (at d : ℕ) (S Z : List ℕ) where
   abbrev top : ℕ

@@ -5,14 +5,12 @@
 -- Letters: T text, n nodes, i a place, v a node, ns the nodes of a text. Assumes nothing.
 use Prim.Native.Nat.{ℕ, _≤_}
 use mathlib.Core.Path.{_≡_, refl, sym, ap, subst, _∙_}
-use mathlib.Core.Logic.{⊎-elim}
 use mathlib.Core.List.{List}
 use mathlib.Core.Bool.{Bool, true, false, cond}
 use native.Mathlib.Omega.{arith}
 use lib.Dec.{ltb}
 use lib.ListN.{length}
-use borrow.Author.Tests.{ltb-true, ltb-false, le-ltb}
-use Rattle.seq.proofs.Laws.Bools.{bool-cases}
+use borrow.Author.Tests.{ltb-false, le-ltb}
 use Rattle.index.specs.Replies.{accepted, SIZE, TREE, refused, totalled}
 use Rattle.index.specs.declared.Reply.{Reply}
 use Rattle.profile.specs.Tree.{Node}

@@ -1,9 +1,9 @@
 -- The turns in numbers, by what the code has tested: a lemma for each way that a function returns.
 -- Letters as in specs/Inner. Assumes nothing.
 use Prim.Native.Nat.{ℕ, suc, _+_, _-_, _≤_, _<_}
-use mathlib.Core.Path.{_≡_, refl, sym, ap, ap₂, _∙_}
+use mathlib.Core.Path.{_≡_, sym, ap, ap₂, _∙_}
 use mathlib.Core.List.{List}
-use mathlib.Core.Bool.{Bool, true, false, not, cond, _&&_, _||_}
+use mathlib.Core.Bool.{Bool, true, false, not, cond, _&&_}
 use lib.Dec.{eqb, ltb, leb}
 use native.Mathlib.Omega.{arith}
 use lib.ListN.{length, getD, take, drop, length-drop}
@@ -13,9 +13,8 @@ use Rattle.profile.specs.Spans.{common}
 use Rattle.profile.specs.Pieces.{START}
 use Rattle.profile.proofs.Laws.Spans.{common-text}
 use Rattle.markup.specs.declared.Piece.{Piece}
-use Rattle.judge.specs.Inner.{nameIn, brokenAt, overAt, goesOn, isFull, isClosed, passed, spaceTurn, dataTurn, tagTurn, matched, closeTurn, Holds}
+use Rattle.judge.specs.Inner.{brokenAt, overAt, goesOn, isFull, isClosed, passed, spaceTurn, dataTurn, tagTurn, matched, closeTurn, Holds}
 use Rattle.judge.specs.declared.turns.State.{State}
-use Rattle.judge.specs.declared.turns.Turn.{Turn}
 use Rattle.judge.proofs.Turning.{when, unless}
 
 -- ---- tests

@@ -1,22 +1,22 @@
 -- The turn that the piece at a place gives, by the kind of the piece: a lemma for each way that `take_turn` returns, and what it asks of the others.
 -- Letters as in specs/Inner; q the piece in `profile`. Assumes nothing.
-use Prim.Native.Nat.{ℕ, suc, _+_, _-_, _≤_, _<_}
-use mathlib.Core.Path.{_≡_, refl, sym, ap, subst, _∙_}
+use Prim.Native.Nat.{ℕ, _+_, _-_, _≤_, _<_}
+use mathlib.Core.Path.{_≡_, sym, ap, subst, _∙_}
 use mathlib.Core.Logic.{inl, inr}
 use mathlib.Core.List.{List}
 use mathlib.Core.Bool.{true, false}
 use native.Mathlib.Omega.{arith}
 use lib.ListN.{length, set, drop, length-drop}
-use Rattle.profile.specs.Pieces.{END, DATA, COMMENT, START, EMPTY, CLOSE, pieceOf}
+use Rattle.profile.specs.Pieces.{END, DATA, START, EMPTY, CLOSE, pieceOf}
 use Rattle.profile.specs.Pieces as pieces
-use Rattle.profile.specs.Turns.{turnBy, turn}
+use Rattle.profile.specs.Turns.{turn}
 use Rattle.profile.proofs.Turns.{by-close, by-tag}
 use Rattle.profile.proofs.Went.{data-by}
 use Rattle.profile.proofs.PieceLaws.{piece-le, middle-le, TagBounds, tag-bounds, close-two, end-by, other-by}
 use Rattle.markup.specs.declared.Piece.{Piece}
 use Rattle.markup.specs.Pieces.{pieceFrom, pieceAt}
-use Rattle.judge.specs.Judge.{longest, maxLevel, maxNodes}
-use Rattle.judge.specs.Inner.{placeOf, tallyIn, turnOf, endedWith, brokenAt, isClosed, passed, dataTurn, tagTurn, closeTurn, DataPre, TagPre, ClosePre, TurnPre, Told}
+use Rattle.judge.specs.Judge.{maxLevel, maxNodes}
+use Rattle.judge.specs.Inner.{tallyIn, turnOf, endedWith, brokenAt, isClosed, passed, dataTurn, tagTurn, closeTurn, DataPre, TagPre, ClosePre, TurnPre, Told}
 use Rattle.judge.specs.declared.turns.State.{State}
 use Rattle.judge.specs.declared.turns.Turn.{Turn}
 use Rattle.judge.proofs.Turning.{told-move, end-told, short-told, data-told, close-told, empty-told, full-told, start-told, other-told}

@@ -3,26 +3,26 @@
 -- Letters as in specs/Inner; q a piece of `profile`, t the text from the piece on. Assumes nothing.
 use Prim.Native.Nat.{ℕ, zero, suc, pred, _+_, _-_, _≤_, _<_}
 use mathlib.Core.Path.{_≡_, refl, sym, ap, ap₂, subst, _∙_}
-use mathlib.Core.Logic.{_⊎_, inl, inr, ⊎-elim}
-use mathlib.Core.List.{List, [], _∷_}
+use mathlib.Core.Logic.{_⊎_, ⊎-elim}
+use mathlib.Core.List.{List}
 use mathlib.Core.Bool.{Bool, true, false, not, cond, _&&_, _||_, false≢true}
 use native.Mathlib.Omega.{arith}
 use lib.Dec.{eqb, ltb, leb}
 use lib.ListN.{length, getD, set, take, drop, length-set, length-take, length-drop}
 use lib.Seq.{drop-drop, getD-set-same, getD-set-other}
-use borrow.Author.Tests.{eqb-true, eqb-false, eq-eqb, ne-eqb, ltb-true, ltb-false, lt-ltb, le-ltb, leb-true, leb-false, le-leb, lt-leb}
+use borrow.Author.Tests.{eqb-true, eqb-false, eq-eqb, ne-eqb, ltb-true, ltb-false, lt-ltb, le-ltb, leb-false, le-leb, lt-leb}
 use Rattle.seq.proofs.Laws.Bools.{bool-cases, and-left, and-right}
 use Rattle.profile.specs.Spans.{common}
 use Rattle.profile.specs.Machine.{Place, before, after, inside, past}
-use Rattle.profile.specs.Check.{Tally, Reply, whole, broken, over, full}
-use Rattle.profile.specs.Pieces.{END, DATA, COMMENT, START, EMPTY, CLOSE, pieceOf}
+use Rattle.profile.specs.Check.{Tally, whole, broken, over, full}
+use Rattle.profile.specs.Pieces.{START, EMPTY}
 use Rattle.profile.specs.Pieces as pieces
-use Rattle.profile.specs.Turns.{halt, go, tally, nameOf, withData, tagTally, named, turnSpace, turnEnd, turnData, turnElement, turnTag, turnClose, turnBy}
+use Rattle.profile.specs.Turns.{halt, go, tally, nameOf, withData, tagTally, turnSpace, turnEnd, turnData, turnElement, turnTag, turnClose}
 use Rattle.profile.specs.Turns as turns
 use Rattle.markup.specs.declared.Piece.{Piece}
 use Rattle.markup.specs.Pieces.{pieceFrom}
-use Rattle.judge.specs.Judge.{longest, maxLevel, maxNodes, inNumbers}
-use Rattle.judge.specs.Inner.{nameIn, openPlace, placeOf, tallyIn, endedWith, brokenAt, overAt, goesOn, isFull, isClosed, passed, spaceTurn, dataTurn, tagTurn, matched, closeTurn, Holds, Halted, Gone, stateIn, Told}
+use Rattle.judge.specs.Judge.{maxLevel, maxNodes, inNumbers}
+use Rattle.judge.specs.Inner.{nameIn, openPlace, placeOf, tallyIn, endedWith, brokenAt, overAt, goesOn, isFull, isClosed, passed, spaceTurn, dataTurn, tagTurn, closeTurn, Holds, Told}
 use Rattle.judge.specs.declared.turns.State.{State}
 use Rattle.judge.specs.declared.turns.Turn.{Turn}
 

@@ -2,12 +2,11 @@
 --   Walk T S Z at d m b r   == at the place `at` the rest of the text comes to the same reply as the whole, from the state with these numbers
 --   walk-start, walk-halts, walk-goes
 -- Letters as in specs/Inner; d m b r the numbers of a state. Assumes nothing.
-use Prim.Native.Nat.{ℕ, suc, _+_, _-_, _≤_, _<_}
+use Prim.Native.Nat.{ℕ, _+_, _-_, _≤_, _<_}
 use mathlib.Core.Path.{_≡_, refl, sym, ap, ap₂, subst, _∙_}
 use mathlib.Core.List.{List}
-use mathlib.Core.Bool.{Bool, true, false, cond, false≢true}
+use mathlib.Core.Bool.{Bool, true, false, false≢true}
 use native.Mathlib.Omega.{arith}
-use lib.Dec.{ltb}
 use lib.ListN.{length, drop, length-drop}
 use lib.Seq.{drop-drop}
 use borrow.Author.Tests.{lt-ltb, le-ltb}
@@ -24,7 +23,7 @@ use Rattle.profile.proofs.PieceLaws.{piece-le, Good, went-of, turn-good}
 use Rattle.markup.specs.declared.Piece as markup
 use Rattle.markup.specs.Pieces.{pieceAt}
 use Rattle.judge.specs.Judge.{longest, maxLevel, maxNodes, inNumbers, judgeReply}
-use Rattle.judge.specs.Inner.{placeOf, tallyIn, turnOf, Holds, TurnPre, replyIn, stateIn, Halted, Gone, Told}
+use Rattle.judge.specs.Inner.{placeOf, tallyIn, turnOf, Holds, TurnPre, replyIn, stateIn, Told}
 use Rattle.judge.specs.declared.turns.State.{State}
 use Rattle.judge.specs.declared.turns.Turn.{Turn}
 

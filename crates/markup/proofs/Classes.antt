@@ -13,8 +13,8 @@ use native.Mathlib.Omega.{arith}
 use lib.Dec.{eqb, ltb, leb}
 use lib.ListN.{length, getD, drop, length-drop, List·getD-eq-default}
 use lib.Seq.{getD-drop}
-use borrow.Author.Tests.{eq-eqb, ne-eqb, le-leb, lt-leb, eqb-true, leb-true, ltb-true, ltb-false}
-use Rattle.seq.proofs.Laws.Bools.{bool-cases, bool-ext, and-left, and-right}
+use borrow.Author.Tests.{ne-eqb, le-leb, lt-leb, ltb-true, ltb-false}
+use Rattle.seq.proofs.Laws.Bools.{bool-cases}
 use Rattle.profile.specs.Bytes.{char, white, nameStart, nameChar, dataChar, plain, commented}
 use Rattle.profile.specs.Classes.{table, class, within, ClassRule}
 use Rattle.profile.specs.Spans.{span}

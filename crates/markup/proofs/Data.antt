@@ -7,7 +7,7 @@
 --   data-forgets, data-refuses                past brackets the count is of use only to a `>`, which it refuses after two
 -- Letters: t u rows of bytes, x a byte, k brackets, f a test of a byte, n a size.
 use Prim.Native.Nat.{ℕ, zero, suc, _≤_, _<_}
-use mathlib.Core.Path.{_≡_, refl, sym, ap, _∙_}
+use mathlib.Core.Path.{_≡_, refl, ap, _∙_}
 use mathlib.Core.Logic.{⊎-elim}
 use mathlib.Core.List.{List, [], _∷_}
 use mathlib.Core.Bool.{Bool, true, false, not, _&&_}
@@ -21,9 +21,10 @@ use Rattle.profile.specs.Bytes.{'&', '<', '>', ']', char, dataChar, plain}
 use Rattle.profile.specs.Spans.{span}
 use Rattle.profile.specs.Machine.{Brackets, b0, b1, b2, raised, two, runByte, runNext}
 use Rattle.profile.specs.Pieces.{stop, after, referenceStop, dataStop}
+use Rattle.profile.proofs.Stops.{after-zero}
 use Rattle.profile.proofs.Laws.Bytes.{apart}
 use Rattle.profile.proofs.Laws.Spans.{common-text}
-use Rattle.markup.proofs.Reading.{after-zero, after-suc, run-over}
+use Rattle.markup.proofs.Reading.{after-suc, run-over}
 
 -- ---- plain bytes
 plain-data : (x : ℕ) → plain x ≡ true → dataChar x ≡ true
@@ -69,7 +70,7 @@ data-greater t = refl
 -- The bytes of a reference are passed over.
 data-over : (n : ℕ) (t : List ℕ) → n ≤ length t → dataStop b0 n t ≡ after n (dataStop b0 0 (drop n t))
 unfolding dataStop
-data-over zero t l = sym (after-zero (dataStop b0 0 t))
+data-over zero t l = after-zero (dataStop b0 0 t)
 data-over (suc n) [] l = absurd (not-suc-le-zero l)
 data-over (suc n) (x ∷ t) l = ap (after 1) (data-over n t (omega arith)) ∙ after-suc n _
 
@@ -97,11 +98,11 @@ data-one b2 t = refl
 data-many : (f : ℕ → Bool) → ((x : ℕ) → f x ≡ true → eqb x ']' ≡ true) → (u : List ℕ) (k : Brackets) →
     dataStop k 0 u ≡ after (span f u) (dataStop (many (span f u) k) 0 (drop (span f u) u))
 unfolding span many
-data-many f e [] k = sym (after-zero (dataStop k 0 []))
+data-many f e [] k = after-zero (dataStop k 0 [])
 data-many f e (x ∷ u) k =
     ⊎-elim
     (λ q. rw q (ap (λ y. dataStop k 0 (y ∷ u)) (eqb-true x ']' (e x q)) ∙ data-one k u ∙ ap (after 1) (data-many f e u (raised k)) ∙ after-suc (span f u) _))
-    (λ q. rw q (sym (after-zero (dataStop k 0 (x ∷ u)))))
+    (λ q. rw q (after-zero (dataStop k 0 (x ∷ u))))
     (bool-cases (f x))
 
 -- Two and more stay two.

@@ -1,5 +1,5 @@
 -- What is left of a piece at a place, and the steps of the loops that read one. Assumes nothing.
---   after-zero, after-add, after-suc             nothing in front, and one front after another
+--   after-add, after-suc                         one front after another
 --   reached-after, reached-stop                  the same at places
 --   run-over                                     a front of bytes each of which leads on
 --   Reading F t o i                              what F says of the text t from o on is what it says from i on, with the bytes between in front
@@ -18,15 +18,10 @@ use lib.Seq.{drop-cons, drop-drop}
 use Rattle.seq.proofs.Laws.Bools.{bool-cases}
 use Rattle.profile.specs.Spans.{span}
 use Rattle.profile.specs.Pieces.{Stop, stop, after}
+use Rattle.profile.proofs.Stops.{after-zero}
 use Rattle.markup.specs.Inner.{reached, reachedFrom}
 
 -- ---- stops
-pub after-zero : (s : Stop) → after 0 s ≡ s
-after-zero s = ap (λ k. stop k (s .whole)) none
-  where
-    none : 0 + s .size ≡ s .size
-    none = omega arith
-
 pub after-add : (m n : ℕ) (s : Stop) → after m (after n s) ≡ after (m + n) s
 after-add m n s = ap (λ k. stop k (s .whole)) both
   where
@@ -55,9 +50,9 @@ reached-stop i b = ap (λ k. reached k b) none
 pub run-over : (F : List ℕ → Stop) (f : ℕ → Bool) → ((x : ℕ) (t : List ℕ) → f x ≡ true → F (x ∷ t) ≡ after 1 (F t)) →
     (u : List ℕ) → F u ≡ after (span f u) (F (drop (span f u) u))
 unfolding span
-run-over F f e [] = sym (after-zero (F []))
+run-over F f e [] = after-zero (F [])
 run-over F f e (x ∷ u) =
-    ⊎-elim (λ q. rw q (e x u q ∙ ap (after 1) (run-over F f e u) ∙ after-suc (span f u) _)) (λ q. rw q (sym (after-zero (F (x ∷ u))))) (bool-cases (f x))
+    ⊎-elim (λ q. rw q (e x u q ∙ ap (after 1) (run-over F f e u) ∙ after-suc (span f u) _)) (λ q. rw q (after-zero (F (x ∷ u)))) (bool-cases (f x))
 
 -- ---- a loop
 pub record Reading (F : List ℕ → Stop) (t : List ℕ) (o i : ℕ) : Type 0 where

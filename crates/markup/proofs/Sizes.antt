@@ -3,7 +3,7 @@
 --   kind-some, kind-most                    of its kind
 -- Letters: t u rows of bytes, x a byte, k brackets, m n s sizes.
 use Prim.Native.Nat.{ℕ, zero, suc, zero-le, _+_, _≤_, _<_}
-use mathlib.Core.Path.{_≡_, sym, ap, _∙_}
+use mathlib.Core.Path.{_≡_, ap}
 use mathlib.Core.Logic.{⊎-elim}
 use mathlib.Core.List.{List, [], _∷_}
 use mathlib.Core.Bool.{Bool, true, false, cond, false≢true}
@@ -12,7 +12,7 @@ use lib.Dec.{eqb}
 use lib.ListN.{length, drop, length-drop}
 use borrow.Author.Tests.{eqb-true}
 use Rattle.seq.proofs.Laws.Bools.{bool-cases}
-use Rattle.profile.specs.Bytes.{'!', '&', '-', '/', '<', '>', char, white, nameStart, nameChar, plain}
+use Rattle.profile.specs.Bytes.{'!', '&', '-', '/', '<', '>', char, white, nameStart, nameChar}
 use Rattle.profile.specs.Spans.{span, common}
 use Rattle.profile.specs.Machine.{Brackets, b0, runByte, runNext}
 use Rattle.profile.specs.Pieces.{Stop, stop, after, meant, referenceStop, dataStop, closeStop, bodyStop, commentStop, Piece, nameSize, tagEnd, tagPiece, closePiece, markupPiece, pieceOf}

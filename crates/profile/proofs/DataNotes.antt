@@ -3,31 +3,29 @@
 --   space-note   white space outside the root
 -- Letters as in specs/Notes; f l c the first byte, the last and the first solid one of the data held; w the white space before it. Assumes nothing.
 use Prim.Native.Nat.{ℕ, zero, suc, _+_, _-_, _≤_, _<_}
-use mathlib.Core.Path.{_≡_, refl, sym, ap, subst, _∙_}
-use mathlib.Core.Logic.{⊎-elim}
+use mathlib.Core.Path.{_≡_, refl, sym, ap, _∙_}
 use mathlib.Core.List.{List, [], _∷_, _++_}
-use mathlib.Core.Bool.{Bool, true, false, not, cond, _&&_, false≢true}
-use mathlib.Core.Option.{Option, none, some}
+use mathlib.Core.Bool.{Bool, true, false, not, cond, false≢true}
+use mathlib.Core.Option.{none, some}
 use native.Mathlib.Nat.{not-suc-le-zero}
 use native.Mathlib.Omega.{arith}
-use lib.Dec.{eqb, ltb}
+use lib.Dec.{eqb}
 use lib.ListN.{length, take, drop, length-drop, take-append-drop}
 use lib.Seq.{drop-drop, length-take-le}
-use borrow.Author.Tests.{eqb-true, eqb-false, eq-eqb, ne-eqb, lt-ltb, le-ltb}
-use Rattle.seq.proofs.Laws.Bools.{bool-cases}
+use borrow.Author.Tests.{eqb-true, eqb-false, ne-eqb, lt-ltb, le-ltb}
 use Rattle.profile.specs.Bytes.{'&', semicolon, '<', white}
 use Rattle.profile.specs.Bytes as bytes
 use Rattle.profile.specs.Spans.{span, common}
 use Rattle.profile.specs.Machine.{Place, inside, Brackets, b0, State, between, ampersand, ampersandA, owing, expect, runByte, runNext, stepBetween, stepAmpersand, stepAmpersandA, step}
 use Rattle.profile.specs.Tree.{Held, nothing, held, datum}
-use Rattle.profile.specs.Reader.{Memory, Reading, holds, noteBetween, note, read}
+use Rattle.profile.specs.Reader.{Memory, Reading, holds, note, read}
 use Rattle.profile.specs.Pieces.{Stop, stop, meant, referenceStop, dataStop}
 use Rattle.profile.specs.Pieces as pieces
 use Rattle.profile.specs.Notes.{stretched, marked, withRun, holding}
 use Rattle.profile.proofs.Passes.{read-goes}
 use Rattle.profile.proofs.Pieces.{Stays, owed, loop-passes}
 use Rattle.profile.proofs.DataTurns.{later, stop-skips, run-step, run-stop, angle-stop, white-run, white-next, white-stop}
-use Rattle.profile.proofs.Laws.Bytes.{run-angle, white-angle}
+use Rattle.profile.proofs.Laws.Bytes.{white-angle}
 use Rattle.profile.proofs.Laws.Spans.{span-le, span-keeps, common-text}
 use Rattle.profile.proofs.Laws.Heads.{span-next, common-whole}
 

@@ -6,8 +6,8 @@
 use Prim.Native.Nat.{ℕ, zero, suc, _+_, _≤_, _<_}
 use mathlib.Core.Path.{_≡_, refl, sym, ap, ap₂, subst, _∙_}
 use mathlib.Core.Logic.{⊎-elim}
-use mathlib.Core.List.{List, [], _∷_, _++_}
-use mathlib.Core.Bool.{Bool, true, false, not, cond, _&&_, _||_, false≢true}
+use mathlib.Core.List.{List, [], _∷_}
+use mathlib.Core.Bool.{Bool, true, false, not, cond, _&&_, _||_}
 use mathlib.Core.Option.{none, some}
 use native.Mathlib.Nat.{not-suc-le-zero}
 use native.Mathlib.Omega.{arith}
@@ -16,7 +16,7 @@ use lib.ListN.{length, drop, length-drop}
 use lib.Seq.{drop-drop}
 use borrow.Author.Tests.{eqb-true, eqb-false, eq-eqb, ne-eqb, ltb-true, ltb-false, lt-ltb, le-ltb}
 use Rattle.seq.proofs.Laws.Bools.{bool-cases, and-false-right}
-use Rattle.profile.specs.Bytes.{'&', semicolon, '<', '>', ']', char, white, dataChar, startsWith}
+use Rattle.profile.specs.Bytes.{'&', semicolon, '<', char, white, dataChar, startsWith}
 use Rattle.profile.specs.Spans.{span, common}
 use Rattle.profile.specs.Machine.{Place, before, after, inside, Brackets, b0, State, between, ampersand, ampersandA, owing, expect, runByte, runNext, stepBetween, stepAmpersand, stepAmpersandA, step, accepting}
 use Rattle.profile.specs.Check.{Tally, Reply, broken, over, meets, depthAfter, solidAfter, count, full, check}
@@ -25,7 +25,7 @@ use Rattle.profile.specs.Pieces as pieces
 use Rattle.profile.specs.Turns.{halt, go, follow, tally, turnSpace, turnData}
 use Rattle.profile.proofs.Passes.{check-goes, check-dead, check-short}
 use Rattle.profile.proofs.Pieces.{Stays, loop-passes}
-use Rattle.profile.proofs.Stops.{white-reaches}
+use Rattle.profile.proofs.Stops.{eqb-suc, after-zero, white-reaches}
 use Rattle.profile.proofs.TagTurns.{check-meets, follow-if}
 use Rattle.profile.proofs.Laws.Bytes.{white-elim, white-angle, run-angle, run-ampersand}
 use Rattle.profile.proofs.Laws.Spans.{common-text}
@@ -35,29 +35,16 @@ use Rattle.profile.proofs.Laws.Heads.{span-next}
 abbrev pub later : ℕ → Stop → Stop
 later n e = pieces.after n e
 
-eqb-next : (a b : ℕ) → eqb a b ≡ eqb (suc a) (suc b)
-eqb-next a b =
-    ⊎-elim
-    (λ q. q ∙ sym (eq-eqb (suc a) (suc b) (ap suc (eqb-true a b q))))
-    (λ q. q ∙ sym (ne-eqb (suc a) (suc b) λ e. eqb-false a b q (omega arith)))
-    (bool-cases (eqb a b))
-
 -- A byte that begins no reference.
 no-reference : (x : ℕ) (t : List ℕ) → eqb x 108 ≡ false → eqb x 103 ≡ false → eqb x 113 ≡ false → eqb x 97 ≡ false →
     meant (x ∷ t) ≡ 97 ∷ 109 ∷ 112 ∷ semicolon ∷ []
 unfolding meant startsWith
 no-reference x t q r v u = rw (q, r, v, u)
 
-later-zero : (e : Stop) → e ≡ later 0 e
-later-zero e = ap (λ z. stop z (e .whole)) none
-  where
-    none : e .size ≡ 0 + e .size
-    none = omega arith
-
 -- The bytes of a reference are passed over.
 pub stop-skips : (k : Brackets) (r : ℕ) (t : List ℕ) → r ≤ length t → dataStop k r t ≡ later r (dataStop k 0 (drop r t))
 unfolding dataStop
-stop-skips k zero t l = later-zero (dataStop k 0 t)
+stop-skips k zero t l = after-zero (dataStop k 0 t)
 stop-skips k (suc r) [] l = absurd (not-suc-le-zero l)
 stop-skips k (suc r) (x ∷ t) l =
     ap (later 1) (stop-skips k r t (omega (arith, l))) ∙ ap (λ z. stop z (dataStop k 0 (drop r t) .whole)) more
@@ -135,7 +122,7 @@ module _ (L N m d : ℕ) where
       by-byte true q r =
           firm j (owing true y w s) (expect true w s) x t (unfold step in rw q) refl refl refl ∙ r ∙ came-later j s x t (owes w t) ∙
           ap (λ z. came j s (x ∷ t) (stop z (eqb (common w t) (length w)))) next ∙
-          ap (λ b. came j s (x ∷ t) (stop (suc (common w t)) b)) (eqb-next (common w t) (length w))
+          ap (λ b. came j s (x ∷ t) (stop (suc (common w t)) b)) (eqb-suc (common w t) (length w))
       by-byte false q r =
           check-dead L N j (owing true y w s) x C t (unfold step in rw q) ∙ broken-zero j s (x ∷ t) ∙
           ap (λ b. came j s (x ∷ t) (stop 0 b)) (sym (ne-eqb 0 (suc (length w)) λ q. omega arith))
@@ -147,7 +134,7 @@ module _ (L N m d : ℕ) where
   begun s₀ s y w j t e f g h =
       firm j s₀ (expect true w s) y t e f g h ∙ owes-firm w s (suc j) t ∙ came-later j s y t (owes w t) ∙
       ap (λ z. came j s (y ∷ t) (stop z (eqb (common w t) (length w)))) next ∙
-      ap (λ b. came j s (y ∷ t) (stop (suc (common w t)) b)) (eqb-next (common w t) (length w)) ∙
+      ap (λ b. came j s (y ∷ t) (stop (suc (common w t)) b)) (eqb-suc (common w t) (length w)) ∙
       ap (λ b. came j s (y ∷ t) (stop (cond b (suc (common w t)) 0) (eqb (cond b (suc (common w t)) 0) (suc (length w))))) (sym (eq-eqb y y refl))
     where
       next : 1 + common w t ≡ suc (common w t)
@@ -179,7 +166,7 @@ module _ (L N m d : ℕ) where
         second y w e =
             begun (ampersandA n p) S y w (suc j) t e refl refl refl ∙ came-later j S 97 (y ∷ t) (owes (y ∷ w) (y ∷ t)) ∙
             ap (λ z. came j S (97 ∷ y ∷ t) (stop z (eqb (common (y ∷ w) (y ∷ t)) (length (y ∷ w))))) more ∙
-            ap (λ b. came j S (97 ∷ y ∷ t) (stop (suc (common (y ∷ w) (y ∷ t))) b)) (eqb-next (common (y ∷ w) (y ∷ t)) (length (y ∷ w)))
+            ap (λ b. came j S (97 ∷ y ∷ t) (stop (suc (common (y ∷ w) (y ∷ t))) b)) (eqb-suc (common (y ∷ w) (y ∷ t)) (length (y ∷ w)))
           where
             more : 1 + common (y ∷ w) (y ∷ t) ≡ suc (common (y ∷ w) (y ∷ t))
             more = omega arith
@@ -352,7 +339,7 @@ white-next = white-elim (λ x. runNext b0 x ≡ b0) refl refl refl refl
 
 pub white-stop : (t : List ℕ) → dataStop b0 0 t ≡ later (span white t) (dataStop b0 0 (drop (span white t) t))
 unfolding span
-white-stop [] = later-zero (dataStop b0 0 [])
+white-stop [] = after-zero (dataStop b0 0 [])
 white-stop (x ∷ t) = by-byte (white x) refl (white-stop t)
   where
     by-byte : (b : Bool) → white x ≡ b → dataStop b0 0 t ≡ later (span white t) (dataStop b0 0 (drop (span white t) t)) →
@@ -363,7 +350,7 @@ white-stop (x ∷ t) = by-byte (white x) refl (white-stop t)
       where
         more : 1 + (span white t + dataStop b0 0 (drop (span white t) t) .size) ≡ suc (span white t) + dataStop b0 0 (drop (span white t) t) .size
         more = omega arith
-    by-byte false q r = later-zero (dataStop b0 0 (x ∷ t))
+    by-byte false q r = after-zero (dataStop b0 0 (x ∷ t))
 
 -- ---- data inside an element
 -- The tally once data makes a node.

@@ -22,7 +22,7 @@ use Rattle.profile.specs.Check.{Tally, broken, over, full}
 use Rattle.profile.specs.Pieces.{Stop, stop, closeStop, bodyStop, commentStop, referenceStop, meant, dataStop, END, DATA, COMMENT, START, EMPTY, CLOSE, NONE, Piece, piece, nameSize, tagEnd, tagPiece, closePiece, pieceOf}
 use Rattle.profile.specs.Pieces as pieces
 use Rattle.profile.specs.Turns.{Turn, halt, go, tally, nameOf, withData, tagTally, named, turnEnd, turnSpace, turnData, turnElement, turnTag, turnClose, turnBy, turn, lawful}
-use Rattle.profile.proofs.Pieces.{Enters, enters-before, enters-inside}
+use Rattle.profile.proofs.Pieces.{enters-before}
 use Rattle.profile.proofs.Turns.{close-kind, tag-kind, by-close, by-tag}
 use Rattle.profile.proofs.TagTurns.{tagEnd-middle}
 use Rattle.profile.proofs.TagNotes.{placed, tag-named}

@@ -10,7 +10,7 @@ use Prim.Native.Nat.{ℕ, zero, suc, _+_}
 use mathlib.Core.Path.{_≡_, refl, sym, ap, subst, _∙_}
 use mathlib.Core.Logic.{⊎-elim}
 use mathlib.Core.List.{List, [], _∷_, _++_}
-use mathlib.Core.Bool.{Bool, true, false, cond, _&&_, false≢true}
+use mathlib.Core.Bool.{Bool, true, false, cond}
 use mathlib.Core.Option.{some}
 use native.Mathlib.Omega.{arith}
 use lib.Dec.{eqb}
@@ -19,13 +19,13 @@ use lib.Seq.{length-take-le, drop-drop}
 use borrow.Author.Tests.{eqb-true, eqb-false, eq-eqb, ne-eqb}
 use Rattle.seq.specs.Lists.{everyOf}
 use Rattle.seq.proofs.Laws.Bools.{bool-cases, and-both}
-use Rattle.profile.specs.Bytes.{'!', '-', '/', '>', char, white, nameStart, nameChar, isName}
+use Rattle.profile.specs.Bytes.{'!', '-', '>', char, white, nameStart, nameChar, isName}
 use Rattle.profile.specs.Spans.{span, common}
 use Rattle.profile.specs.Machine.{Place, b0, State, between, angle, inComment, inName, inTag, inEndTag, owing, expect, stepComment, step, accepting}
 use Rattle.profile.specs.Reader.{Memory, read}
 use Rattle.profile.specs.Check.{Tally, check}
-use Rattle.profile.specs.Pieces.{Stop, stop, after, closeStop, bodyStop, commentStop, nameSize}
-use Rattle.profile.proofs.Passes.{Silent, Passes, passes-one, passes-append, Likewise, Stops, stops-here, stops-dead, stops-short, stops-after, check-short}
+use Rattle.profile.specs.Pieces.{Stop, stop, after, closeStop, bodyStop, commentStop}
+use Rattle.profile.proofs.Passes.{Silent, Passes, passes-one, Stops, stops-here, stops-dead, stops-short, stops-after, check-short}
 use Rattle.profile.proofs.Pieces.{Enters, owed-silent, loop-passes, tag-white, name-stops, named, endTag-white, comment-bang, comment-dashed, comment-closing, comment-goes}
 use Rattle.profile.proofs.Laws.Spans.{span-le, span-keeps}
 use Rattle.profile.proofs.Laws.Heads.{span-next}
@@ -49,7 +49,7 @@ after-cond false n c e = ap (λ z. stop z false) longer
     longer : 1 + c ≡ suc c
     longer = omega arith
 
-eqb-suc : (a b : ℕ) → eqb a b ≡ eqb (suc a) (suc b)
+pub eqb-suc : (a b : ℕ) → eqb a b ≡ eqb (suc a) (suc b)
 eqb-suc a b =
     ⊎-elim
     (λ q. q ∙ sym (eq-eqb (suc a) (suc b) (ap suc (eqb-true a b q))))
@@ -60,7 +60,7 @@ eqb-suc a b =
 none-of : (s s′ : State) (t : List ℕ) (n : ℕ) (e : Stop) → Stops s t (stop 0 false) s′ → Stops s t (cond (eqb 0 (suc n)) e (stop 0 false)) s′
 none-of s s′ t n e r = subst (λ b. Stops s t (cond b e (stop 0 false)) s′) (sym (ne-eqb 0 (suc n) λ q. omega arith)) r
 
-after-zero : (e : Stop) → e ≡ after 0 e
+pub after-zero : (e : Stop) → e ≡ after 0 e
 after-zero e = ap (λ z. stop z (e .whole)) none
   where
     none : e .size ≡ 0 + e .size

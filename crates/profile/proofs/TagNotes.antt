@@ -2,10 +2,10 @@
 --   read-open      the `<`
 --   comment-note, element-note, close-note
 -- Letters as in specs/Notes; T the row from the `<` on, k how much of it is read. Assumes nothing.
-use Prim.Native.Nat.{ℕ, zero, suc, _+_, _-_}
-use mathlib.Core.Path.{_≡_, refl, sym, ap, subst, _∙_}
+use Prim.Native.Nat.{ℕ, suc, _+_, _-_}
+use mathlib.Core.Path.{_≡_, refl, sym, ap, _∙_}
 use mathlib.Core.List.{List, [], _∷_}
-use mathlib.Core.Bool.{Bool, true, false, cond, _&&_, false≢true}
+use mathlib.Core.Bool.{Bool, true, false, cond, false≢true}
 use mathlib.Core.Option.{some}
 use native.Mathlib.Omega.{arith}
 use lib.Dec.{eqb}
@@ -15,7 +15,7 @@ use borrow.Author.Tests.{eqb-true}
 use Rattle.seq.proofs.Laws.Bools.{and-left, and-right}
 use Rattle.profile.specs.Bytes.{'!', '/', '<', '>', white, nameStart, nameChar, isName}
 use Rattle.profile.specs.Spans.{span, common}
-use Rattle.profile.specs.Machine.{Place, inside, past, b0, State, between, angle, inTag, inEmpty, inEndTag, expect, stepTag, step}
+use Rattle.profile.specs.Machine.{Place, inside, past, b0, between, angle, inTag, inEmpty, inEndTag, expect, stepTag, step}
 use Rattle.profile.specs.Reader.{Memory, Reading, opened, emptied, closed, note, read}
 use Rattle.profile.specs.Reader as reader
 use Rattle.profile.specs.Pieces.{Stop, stop, after, closeStop, commentStop, START, EMPTY, CLOSE, Piece, piece, nameSize, tagEnd, tagPiece, closePiece}

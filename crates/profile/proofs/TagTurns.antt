@@ -3,16 +3,16 @@
 --   close-turn     an end tag inside an element
 -- Letters as in specs/Turns; T the row from the `<` on, k how much of it is read. Assumes nothing.
 use Prim.Native.Nat.{ℕ, zero, suc, _+_, _-_, pred}
-use mathlib.Core.Path.{_≡_, refl, sym, ap, subst, _∙_}
+use mathlib.Core.Path.{_≡_, refl, sym, ap, _∙_}
 use mathlib.Core.Logic.{⊎-elim}
 use mathlib.Core.List.{List, [], _∷_, _++_}
-use mathlib.Core.Bool.{Bool, true, false, cond, _&&_, _||_, false≢true}
-use mathlib.Core.Option.{Option, none, some}
+use mathlib.Core.Bool.{Bool, true, false, cond, _&&_, false≢true}
+use mathlib.Core.Option.{none, some}
 use native.Mathlib.Omega.{arith}
 use lib.Dec.{eqb}
 use lib.ListN.{length, take, drop}
 use lib.Seq.{drop-drop, drop-append-seam}
-use borrow.Author.Tests.{eqb-true, eqb-false, eq-eqb, ne-eqb}
+use borrow.Author.Tests.{eqb-true, eq-eqb, ne-eqb}
 use Rattle.seq.specs.Lists.{everyOf}
 use Rattle.seq.proofs.Laws.Bools.{bool-cases, bool-false, and-left, and-right}
 use Rattle.profile.specs.Bytes.{'/', '<', '>', white, nameStart, nameChar, isName}
@@ -20,7 +20,7 @@ use Rattle.profile.specs.Spans.{span, common}
 use Rattle.profile.specs.Machine.{Place, inside, past, b0, State, between, angle, inTag, inEmpty, inEndTag, expect, stepTag, step, accepting}
 use Rattle.profile.specs.Check.{Tally, Reply, broken, over, meets, depthAfter, solidAfter, count, weighed, full, check}
 use Rattle.profile.specs.Pieces.{Stop, stop, after, closeStop, START, EMPTY, CLOSE, Piece, piece, nameSize, tagEnd, tagPiece, closePiece, markupPiece, pieceOf}
-use Rattle.profile.specs.Turns.{Turn, halt, go, follow, tally, nameOf, tagTally, named, turnElement, turnClose}
+use Rattle.profile.specs.Turns.{Turn, halt, go, follow, tally, nameOf, tagTally, turnElement, turnClose}
 use Rattle.profile.proofs.Passes.{passes-one, check-goes, check-dead, check-short, stops-here}
 use Rattle.profile.proofs.Pieces.{Enters, tag-slash, endTag-slash}
 use Rattle.profile.proofs.Stops.{expect-stops, tag-reaches, endTag-reaches}
@@ -28,20 +28,21 @@ use Rattle.profile.proofs.Laws.Bytes.{apart, white-nameChar}
 use Rattle.profile.proofs.Laws.Heads.{span-fails, span-passing, span-next, common-whole}
 
 -- ---- rows and replies
-tail-of : List ℕ → List ℕ
-tail-of [] = []
-tail-of (x ∷ t) = t
+module _ {A : Type 0} where
+  tail-of : List A → List A
+  tail-of [] = []
+  tail-of (x ∷ t) = t
 
-tail-drop : (k : ℕ) (T : List ℕ) → tail-of (drop k T) ≡ drop (suc k) T
-unfolding tail-of
-tail-drop zero [] = refl
-tail-drop zero (x ∷ T) = refl
-tail-drop (suc k) [] = refl
-tail-drop (suc k) (x ∷ T) = tail-drop k T
+  tail-drop : (k : ℕ) (T : List A) → tail-of (drop k T) ≡ drop (suc k) T
+  unfolding tail-of
+  tail-drop zero [] = refl
+  tail-drop zero (x ∷ T) = refl
+  tail-drop (suc k) [] = refl
+  tail-drop (suc k) (x ∷ T) = tail-drop k T
 
-pub drop-next : (k : ℕ) (T : List ℕ) (x : ℕ) (u : List ℕ) → drop k T ≡ x ∷ u → drop (suc k) T ≡ u
-unfolding tail-of
-drop-next k T x u e = sym (tail-drop k T) ∙ ap tail-of e
+  pub drop-next : (k : ℕ) (T : List A) (x : A) (u : List A) → drop k T ≡ x ∷ u → drop (suc k) T ≡ u
+  unfolding tail-of
+  drop-next k T x u e = sym (tail-drop k T) ∙ ap tail-of e
 
 pub follow-if : (b : Bool) (x y : Turn) (f : Place → Tally → Reply) → follow (cond b x y) f ≡ cond b (follow x f) (follow y f)
 follow-if true x y f = refl

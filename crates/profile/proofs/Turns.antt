@@ -6,20 +6,20 @@ use Prim.Native.Nat.{ℕ, suc, _+_, _-_}
 use mathlib.Core.Path.{_≡_, refl, sym, ap, subst, _∙_}
 use mathlib.Core.Logic.{_⊎_, inl, inr, ⊎-elim}
 use mathlib.Core.List.{List, [], _∷_}
-use mathlib.Core.Bool.{Bool, true, false, cond, _&&_, false≢true}
+use mathlib.Core.Bool.{Bool, true, false, cond}
 use mathlib.Core.Option.{none}
 use native.Mathlib.Omega.{arith}
 use lib.Dec.{eqb}
-use lib.ListN.{length, drop}
+use lib.ListN.{drop}
 use borrow.Author.Tests.{eqb-true}
 use Rattle.seq.proofs.Laws.Bools.{bool-cases, and-left}
 use Rattle.profile.specs.Bytes.{'!', '/', '<', '>', white, nameStart, isName}
 use Rattle.profile.specs.Spans.{span}
-use Rattle.profile.specs.Machine.{Place, before, after, inside, past, b0, State, between, angle, stepBetween, stepAngle, step, accepting}
+use Rattle.profile.specs.Machine.{Place, before, after, inside, b0, between, angle, stepBetween, stepAngle, step, accepting}
 use Rattle.profile.specs.Check.{Tally, Reply, broken, meets, depthAfter, solidAfter, check}
 use Rattle.profile.specs.Pieces.{Stop, stop, closeStop, commentStop, dataStop, DATA, COMMENT, START, EMPTY, CLOSE, NONE, Piece, piece, nameSize, tagEnd, tagPiece, closePiece, markupPiece, pieceOf}
 use Rattle.profile.specs.Pieces as pieces
-use Rattle.profile.specs.Turns.{Turn, halt, go, follow, turnEnd, turnSpace, turnData, turnTag, turnClose, turnBy, turn, lawful}
+use Rattle.profile.specs.Turns.{halt, go, follow, turnEnd, turnData, turnTag, turnClose, turnBy, turn, lawful}
 use Rattle.profile.proofs.Passes.{check-dead, check-short}
 use Rattle.profile.proofs.Pieces.{enters-before, enters-inside, before-white, after-white}
 use Rattle.profile.proofs.Stops.{comment-stops}

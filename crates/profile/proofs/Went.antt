@@ -5,17 +5,16 @@
 --   stands-start, stands-le   at the beginning; at any time its nodes are at most n
 -- Letters as in specs/Notes; L N the limits. Assumes nothing.
 use Prim.Native.Nat.{ℕ, zero, suc, pred, _+_, _-_, _≤_, _<_}
-use mathlib.Core.Path.{_≡_, refl, sym, ap, ap₂, subst, _∙_}
+use mathlib.Core.Path.{_≡_, refl, sym, ap, subst, _∙_}
 use mathlib.Core.Logic.{_⊎_, ⊎-elim}
-use mathlib.Core.List.{List, [], _∷_, _++_, append-nil}
+use mathlib.Core.List.{List, [], _∷_, _++_}
 use mathlib.Core.Bool.{Bool, true, false, not, cond, _&&_, false≢true}
 use mathlib.Core.Option.{Option, none, some}
-use native.Mathlib.Nat.{not-suc-le-zero}
 use native.Mathlib.Omega.{arith}
-use lib.Dec.{eqb, ltb, leb}
+use lib.Dec.{eqb, ltb}
 use lib.ListN.{length, drop, length-append}
-use borrow.Author.Tests.{eqb-true, ltb-false, leb-false}
-use Rattle.seq.proofs.Laws.Bools.{bool-cases, bool-false, and-left, and-right, and-both}
+use borrow.Author.Tests.{eqb-true}
+use Rattle.seq.proofs.Laws.Bools.{bool-cases, and-left, and-right, and-both}
 use Rattle.profile.specs.Bytes.{'!', '&', '/', '<', '>', white, nameStart, isName}
 use Rattle.profile.specs.Spans.{span, common}
 use Rattle.profile.specs.Machine.{Place, before, after, inside, past, b0, State, between, runByte, step, accepting}

@@ -4,7 +4,7 @@
 --   withRun h j w z   == the data held, h, with a run of z bytes from j on, of which the first w are white space
 --   noted j t q m     == the memory m after the whole piece q, at the head of t and at the place j
 -- That it is what byte after byte adds is in proofs/Notes. Assumes nothing.
-use Prim.Native.Nat.{ℕ, zero, suc, _+_, _-_}
+use Prim.Native.Nat.{ℕ, _+_, _-_}
 use mathlib.Core.List.{List, [], _∷_}
 use mathlib.Core.Bool.{cond}
 use mathlib.Core.Option.{none, some}

@@ -3,21 +3,20 @@
 --   refused-reads, room-reads, accepted-reads   the three ways that `read` returns
 --   read-unique     no second outcome fits
 -- Letters as in specs/Read; n the number of nodes. Assumes nothing.
-use Prim.Native.Nat.{ℕ, zero, suc, _+_, _*_, _≤_, _<_}
-use mathlib.Core.Path.{_≡_, refl, sym, ap, ap₂, subst, _∙_}
+use Prim.Native.Nat.{ℕ, suc, _+_, _*_, _≤_, _<_}
+use mathlib.Core.Path.{_≡_, refl, sym, ap, _∙_}
 use mathlib.Core.List.{List, [], _∷_, _++_, map}
 use mathlib.Core.Bool.{Bool, true, false, cond, _&&_, _||_, false≢true}
 use mathlib.Core.Option.{some, none}
 use native.Mathlib.Omega.{arith}
 use lib.Dec.{eqb, ltb, leb}
-use lib.ListN.{length, take, drop, length-append, length-drop}
+use lib.ListN.{length, length-map, take, drop, length-append, length-drop}
 use lib.Seq.{length-take-le}
-use borrow.Author.Tests.{eqb-true, eq-eqb, ne-eqb, leb-true, leb-false, le-leb, lt-leb, le-ltb}
+use borrow.Author.Tests.{eq-eqb, ne-eqb, leb-true, leb-false, le-leb, lt-leb, le-ltb}
 use Rattle.seq.specs.Memory.{zeroed, over}
-use Rattle.seq.proofs.Laws.Bools.{bool-cases, and-left, and-right, and-both, and-false-right}
+use Rattle.seq.proofs.Laws.Bools.{and-left, and-right, and-both, and-false-right}
 use Rattle.index.specs.declared.Reply.{Reply}
-use Rattle.index.specs.Replies.{accepted, SIZE, TREE, ROOM, refused, totalled, keptOr}
-use Rattle.profile.specs.Grammar.{text}
+use Rattle.index.specs.Replies.{accepted, SIZE, ROOM, refused, totalled, keptOr}
 use Rattle.profile.specs.Tree.{Node}
 use Rattle.profile.specs.Limits.{Key, keysOf, firstOver}
 use Rattle.profile.specs.Reader.{treeOf}
@@ -27,7 +26,7 @@ use Rattle.profile.specs.Check as check
 use Rattle.profile.proofs.Complete.{tree-read}
 use Rattle.profile.proofs.Markup.{none-some}
 use Rattle.profile.proofs.Check.{keys-length}
-use Rattle.judge.specs.Judge.{MARKUP, longest, maxLevel, maxNodes, inNumbers, judgeReply}
+use Rattle.judge.specs.Judge.{longest, maxLevel, maxNodes, inNumbers, judgeReply}
 use Rattle.judge.proofs.Meaning.{Kept, accepted-means}
 use Rattle.names.specs.Names.{Numbered, names}
 use Rattle.names.specs.Names as names
@@ -201,10 +200,6 @@ module _ (T : List ℕ) (l : Lent) (r : Reply) (e : r ≡ judgeReply T) where
         e ∙ sym (if-so (eqb (judgeReply T .refusal) accepted) accepted-is _ _ ∙ if-so (fitsIn (judgeReply T .total) l) (sym (ap (λ (r : Reply). fitsIn (r .total) l) e) ∙ f) _ _)
 
 -- ---- lengths
-map-length : {A : Type 0} (f : Node → A) (ns : List Node) → length (map f ns) ≡ length ns
-map-length f [] = refl
-map-length f (a ∷ ns) = ap suc (map-length f ns)
-
 pub tags-length : (seen l : List (List ℕ)) → length (tagsAfter seen l) ≡ length l
 unfolding tagsAfter
 tags-length seen [] = refl
@@ -270,7 +265,7 @@ module _ (T : List ℕ) (l : Lent) (w : FillPre T l) (R : Rows) (b : Built T R) 
       n = length (R .marks)
 
   nodes-count : length (R .marks) ≡ length (treeOf T)
-  nodes-count = ap length (b .marks) ∙ map-length mark (treeOf T)
+  nodes-count = ap length (b .marks) ∙ length-map (treeOf T) mark
 
   pub filled : Filled T (l .work) (lent (R .parents) t′ (R .firsts) (R .lasts) w′)
   filled =
@@ -307,10 +302,10 @@ pub accepted-reads : (T : List ℕ) (l : Lent) (r : Reply) (n : ℕ) → r ≡ j
 accepted-reads T l r n e z q f k w =
     record {
       reply = full-reply T l r e z (ap (λ i. fitsIn i l) (sym q) ∙ f);
-      parents = row (k .parents) (l .parents) (parentsOf (treeOf T)) (w .parents) (map-length (λ (a : Node). a .parent) (treeOf T));
-      tags = row (k .tags) (l .tags) (tagsIn (treeOf T)) (w .tags) (tags-count (map (λ (a : Node). a .name) (treeOf T)) ∙ map-length (λ (a : Node). a .name) (treeOf T));
-      firsts = row (k .firsts) (l .firsts) (firstsOf (treeOf T)) (w .firsts) (map-length (λ (a : Node). a .first) (treeOf T));
-      lasts = row (k .lasts) (l .lasts) (lastsOf (treeOf T)) (w .lasts) (map-length (λ (a : Node). a .last) (treeOf T));
+      parents = row (k .parents) (l .parents) (parentsOf (treeOf T)) (w .parents) (length-map (treeOf T) (λ (a : Node). a .parent));
+      tags = row (k .tags) (l .tags) (tagsIn (treeOf T)) (w .tags) (tags-count (map (λ (a : Node). a .name) (treeOf T)) ∙ length-map (treeOf T) (λ (a : Node). a .name));
+      firsts = row (k .firsts) (l .firsts) (firstsOf (treeOf T)) (w .firsts) (length-map (treeOf T) (λ (a : Node). a .first));
+      lasts = row (k .lasts) (l .lasts) (lastsOf (treeOf T)) (w .lasts) (length-map (treeOf T) (λ (a : Node). a .last));
       work = w .work ∙ sym (if-row-so (eqb (r .refusal) accepted) (eq-eqb (r .refusal) accepted z) _ _);
     }
   where

@@ -13,7 +13,7 @@ use mathlib.Core.Path.{_≡_}
 use mathlib.Core.List.{List, [], _∷_, map}
 use mathlib.Core.Bool.{true, false, cond}
 use lib.Dec.{eqb, ltb}
-use lib.ListN.{length, getD, set, drop}
+use lib.ListN.{length, getD, set}
 use Rattle.seq.specs.Memory.{zeroed}
 use Rattle.profile.specs.Tree.{Node}
 use Rattle.profile.specs.Reader.{top, treeOf}

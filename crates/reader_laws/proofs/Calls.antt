@@ -4,25 +4,25 @@
 --   tree-first         TREE's place is the first node over a limit, where nothing up to the byte at which it is met breaks the markup
 -- Letters as in specs/Calls; r the reply. Assumes nothing.
 use Prim.Native.Nat.{ℕ, _*_}
-use mathlib.Core.Path.{_≡_, refl, sym, ap, subst, _∙_}
+use mathlib.Core.Path.{_≡_, refl, sym, ap, _∙_}
 use mathlib.Core.Logic.{_↔_}
 use mathlib.Core.List.{List}
-use mathlib.Core.Bool.{Bool, true, false, cond, false≢true}
+use mathlib.Core.Bool.{Bool, true, false, cond}
 use native.Mathlib.Omega.{arith}
 use lib.Dec.{eqb}
 use lib.ListN.{length}
-use borrow.Author.Tests.{eq-eqb, eqb-true, eqb-false}
+use borrow.Author.Tests.{eqb-true, eqb-false}
 use Rattle.seq.specs.Memory.{zeroed, over}
 use Rattle.index.specs.Replies.{accepted, TREE, ROOM, refused, totalled, keptOr}
 use Rattle.index.specs.declared.Reply.{Reply}
-use Rattle.profile.specs.Grammar.{Document, text, IsText}
-use Rattle.profile.specs.Tree.{Node, tree}
+use Rattle.profile.specs.Grammar.{Document, text}
+use Rattle.profile.specs.Tree.{tree}
 use Rattle.profile.specs.Limits.{keysOf, firstOver}
 use Rattle.profile.specs.Limits as limits
 use Rattle.profile.specs.Reader.{treeOf}
 use Rattle.profile.proofs.Complete.{tree-read}
-use Rattle.judge.specs.Judge.{MARKUP, longest, maxLevel, maxNodes, judgeReply}
-use Rattle.judge.proofs.Meaning.{Kept, BrokenAt, OverAt, accepted-means, accepted-given, markup-means, markup-given, tree-means, tree-given}
+use Rattle.judge.specs.Judge.{MARKUP, maxLevel, maxNodes, judgeReply}
+use Rattle.judge.proofs.Meaning.{Kept, accepted-means, accepted-given, markup-means, markup-given, tree-means, tree-given}
 use Rattle.reader.specs.Read.{Lent, fitsIn, readReply, parentsOf, tagsIn, firstsOf, lastsOf, Reads}
 use Rattle.reader_laws.specs.Calls.{Rows, Taken, Broken, Overrun}
 

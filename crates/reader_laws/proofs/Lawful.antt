@@ -8,16 +8,15 @@ use mathlib.Core.Path.{_≡_, refl, sym, ap, subst, _∙_}
 use mathlib.Core.Logic.{_⊎_, inl, inr, ⊎-elim}
 use mathlib.Core.List.{List, [], _∷_, _++_, map, append-assoc, append-nil}
 use mathlib.Core.Bool.{Bool, true, false, cond, _||_, false≢true}
-use mathlib.Core.Option.{Option, none, some}
+use mathlib.Core.Option.{none, some}
 use native.Mathlib.Omega.{arith}
-use lib.Dec.{eqb, ltb, leb}
-use lib.ListN.{length, getD, drop, length-append}
-use lib.Seq.{drop-drop}
+use lib.Dec.{ltb, leb}
+use lib.ListN.{length, length-map, getD, drop, length-append}
 use borrow.Author.Tests.{ltb-true, ltb-false}
 use Rattle.seq.proofs.Laws.Bools.{bool-cases}
 use Rattle.tree.specs.Tree.{parent, level, under}
 use Rattle.tree.specs.Rules.{treeBad}
-use Rattle.tree.specs.Plain.{Under, itself, above, Down, NodeKept, Lawful}
+use Rattle.tree.specs.Plain.{Under, itself, above, Down, NodeKept}
 use Rattle.tree.proofs.Laws.Lines.{level-root, level-suc}
 use Rattle.tree.proofs.Laws.Under.{under-of-plain}
 use Rattle.tree.proofs.Laws.Rules.{lawful-each, lawful-accepted}
@@ -25,27 +24,18 @@ use Rattle.profile.specs.Bytes.{'<', '>', isName}
 use Rattle.profile.specs.Grammar.{Element, emptyTag, tags, Items, end, element, reference, comment, Document, elementThen, itemsThen, endTagThen, miscsThen, text}
 use Rattle.profile.specs.Limits.{Key, keysOf, firstOver}
 use Rattle.profile.proofs.Markup.{none-some}
+use Rattle.profile.proofs.TagTurns.{drop-next}
 use Rattle.profile.proofs.Check.{keys-length}
-use Rattle.profile.specs.Tree.{Node, node, Held, nothing, held, dataNode, runThen, referenceData, elementNodes, itemsNodes, placeIn, tree}
+use Rattle.profile.specs.Tree.{Node, node, Held, nothing, held, dataNode, runThen, elementNodes, itemsNodes, placeIn, tree}
+use Rattle.reader.specs.Read.{parentsOf}
+use Rattle.reader.specs.Inner.{markOf}
 
 -- ---- rows of a list of nodes
--- 1 for an element, which has a name, and 0 for data.
-abbrev pub markOf : List ℕ → ℕ
-markOf [] = 0
-markOf (x ∷ n) = 1
-
-abbrev pub parentsOf : List Node → List ℕ
-parentsOf ns = map (λ (a : Node). a .parent) ns
-
 abbrev pub marksOf : List Node → List ℕ
 marksOf ns = map (λ (a : Node). markOf (a .name)) ns
 
 abbrev pub levelsOf : List Node → List ℕ
 levelsOf ns = map (λ (a : Node). a .level) ns
-
-map-length : (f : Node → ℕ) (ns : List Node) → length (map f ns) ≡ length ns
-map-length f [] = refl
-map-length f (a ∷ ns) = ap suc (map-length f ns)
 
 -- The entry of the node that stands first after v others.
 entry-at : (f : Node → ℕ) (ns : List Node) (v : ℕ) (a : Node) (R : List Node) → drop v ns ≡ a ∷ R → getD (map f ns) v 0 ≡ f a
@@ -63,28 +53,13 @@ entry-at f (b ∷ ns) zero a R e = first (b ∷ ns) (a ∷ R) e
     first x y e = ap (λ z. getD (map f z) 0 0) e
 entry-at f (b ∷ ns) (suc v) a R e = entry-at f ns v a R e
 
-tail-of : List Node → List Node
-tail-of [] = []
-tail-of (a ∷ ns) = ns
-
-tail-drop : (v : ℕ) (ns : List Node) → tail-of (drop v ns) ≡ drop (suc v) ns
-unfolding tail-of
-tail-drop zero [] = refl
-tail-drop zero (a ∷ ns) = refl
-tail-drop (suc v) [] = refl
-tail-drop (suc v) (a ∷ ns) = tail-drop v ns
-
 -- Behind a part.
-drop-one : (ns : List Node) (v : ℕ) (a : Node) (R : List Node) → drop v ns ≡ a ∷ R → drop (suc v) ns ≡ R
-unfolding tail-of
-drop-one ns v a R e = sym (tail-drop v ns) ∙ ap tail-of e
-
 drop-part : (ns : List Node) (v : ℕ) (N R : List Node) → drop v ns ≡ N ++ R → drop (v + length N) ns ≡ R
 drop-part ns v [] R e = ap (λ i. drop i ns) same ∙ e
   where
     same : v + 0 ≡ v
     same = omega arith
-drop-part ns v (a ∷ N) R e = ap (λ i. drop i ns) same ∙ drop-part ns (suc v) N R (drop-one ns v a (N ++ R) e)
+drop-part ns v (a ∷ N) R e = ap (λ i. drop i ns) same ∙ drop-part ns (suc v) N R (drop-next v ns a (N ++ R) e)
   where
     same : v + suc (length N) ≡ suc v + length N
     same = omega arith
@@ -328,7 +303,7 @@ module _ (ns : List Node) where
           let own = node par lev (n .bytes) (place (elementThen (tags n s r i s′) t)) (place ('>' ∷ t)) (place ('>' ∷ (r .bytes ++ itemsThen i u))) in
           let N = itemsNodes place i v (suc lev) (suc v) h u in
           tags-kept v par lev own N R d f
-          (items-kept i v (suc lev) v (suc v) refl h u R (tags-hangs v par lev own N R d refl (marked-name (n .bytes) (n .keeps))) (drop-one ns v own (N ++ R) d))
+          (items-kept i v (suc lev) v (suc v) refl h u R (tags-hangs v par lev own N R d refl (marked-name (n .bytes) (n .keeps))) (drop-next v ns own (N ++ R) d))
 
       -- Content from the node v on, which is the one after w, in the element par.
       items-kept : (i : Items) (par lev w v : ℕ) → v ≡ suc w → (h : Held) (t : List ℕ) (R : List Node) → Hangs w par lev →
@@ -379,7 +354,7 @@ module _ (d : Document) where
   parents = parentsOf nodes
 
   size-is : length parents ≡ length nodes
-  size-is = map-length (λ (a : Node). a .parent) nodes
+  size-is = length-map nodes (λ (a : Node). a .parent)
 
   fact : (k : ℕ) → k < length nodes → Fact nodes k
   fact k l = all-kept .facts k (omega arith) (omega (arith, l))

@@ -16,7 +16,6 @@ use Rattle.tree.specs.Rules.{treeBad}
 use Rattle.index.specs.Index.{Index, nodes, words}
 use Rattle.index.specs.Rules.{listsBad, countsBad}
 use Rattle.index.specs.Replies.{accepted, SIZE, TREE, LIST, COUNT, refused, totalled, sizeOk, refusing, checked, checkReply}
-use Rattle.index.specs.declared.Reply.{Reply}
 use Rattle.profile.specs.Grammar.{Document, text}
 use Rattle.profile.specs.Tree.{Node, tree}
 use Rattle.profile.specs.Limits.{keysOf, firstOver}
@@ -27,7 +26,8 @@ use Rattle.judge.specs.Judge.{judgeReply}
 use Rattle.judge.proofs.Meaning.{Kept, accepted-means}
 use Rattle.reader.specs.Read.{parentsOf, tagsIn}
 use Rattle.reader.proofs.Reading.{counted, tags-count}
-use Rattle.reader_laws.proofs.Lawful.{markOf, marksOf, tree-lawful}
+use Rattle.reader.specs.Inner.{markOf}
+use Rattle.reader_laws.proofs.Lawful.{marksOf, tree-lawful}
 
 -- ---- tags
 -- The tag of a name is not 0.

@@ -4,9 +4,6 @@ use lib.ListN.{length}
 use borrow.Author.Needs.{needs}
 use Rattle.cases.proofs.print_all.Statement.{statement}
 use Rattle.cases.proofs.print_all.Tie as tie
-use Rattle.cases.proofs.print_all.Reads as reads
-use Rattle.cases.proofs.print_all.Lts as lts
-use Rattle.cases.proofs.print.Reads as print-reads
 
 abbrev Inv-loop : tie.InvT-loop
 Inv-loop list i₀ i = Unit
@@ -14,35 +11,27 @@ Inv-loop list i₀ i = Unit
 abbrev μ-loop : tie.MeasureT-loop
 μ-loop list i₀ i = length list - i
 
--- src/main.rt:19:5
 loop-holds : tie.Need-loop-holds Inv-loop μ-loop
 loop-holds c = search needs
 
--- src/main.rt:20:15
 mul-print : tie.Need-mul-print Inv-loop μ-loop
 mul-print c = search needs
 
--- src/main.rt:20:15
 shared-slice-read-print : tie.Need-shared-slice-read-print Inv-loop μ-loop
 shared-slice-read-print c = search needs
 
--- src/main.rt:20:9
 print-requires : tie.Need-print-requires Inv-loop μ-loop
 print-requires c κs = search needs
 
--- src/main.rt:21:9
 add-i : tie.Need-add-i Inv-loop μ-loop
 add-i c = search needs
 
--- src/main.rt:19:5
 loop-less : tie.Need-loop-less Inv-loop μ-loop
 loop-less c = search needs
 
--- src/main.rt:19:5
 loop-again : tie.Need-loop-again Inv-loop μ-loop
 loop-again c = search needs
 
--- src/main.rt:17:1
 returns : tie.Need-returns Inv-loop μ-loop
 returns c = search needs
 

@@ -1,42 +1,30 @@
+-- `reader::fill` meets its contract.
 use Rattle.reader.proofs.Reading.{build-asks, filled}
 use mathlib.Core.Path.{_∙_}
-use borrow.Author.Needs.{needs}
 use Rattle.reader.proofs.fill.Statement.{statement}
 use Rattle.reader.proofs.fill.Tie as tie
-use Rattle.reader.proofs.fill.Reads as reads
-use Rattle.reader.proofs.fill.Lts as lts
-use Rattle.names.proofs.number.Reads as number-reads
-use Rattle.reader.proofs.build.build.Reads as build-reads
 
--- src/lib.rt:43:5
 build-requires : tie.Need-build-requires
 build-requires c κs = build-asks _ _ (c .before .before .before .before .before .before .before .before .before .before .pre)
 
--- src/lib.rt:44:5
 number-requires : tie.Need-number-requires
 number-requires c κs = tt
 
--- src/lib.rt:31:1
 same-length : tie.Need-same-length
 same-length c = (c .before .before .before .before .before .before .before .before .before .before .before .before .before .before .before .before .build .kept .1 .0)
 
--- src/lib.rt:31:1
 same-length-2 : tie.Need-same-length-2
 same-length-2 c = (c .before .before .before .before .number .kept .1 .1 .0) ∙ (c .before .before .before .before .before .before .before .before .before .before .before .before .before .before .before .before .build .kept .1 .1 .0)
 
--- src/lib.rt:31:1
 same-length-3 : tie.Need-same-length-3
 same-length-3 c = (c .before .before .before .before .before .before .before .before .before .before .before .before .before .before .before .before .build .kept .1 .1 .1 .0)
 
--- src/lib.rt:31:1
 same-length-4 : tie.Need-same-length-4
 same-length-4 c = (c .before .before .before .before .before .before .before .before .before .before .before .before .before .before .before .before .build .kept .1 .1 .1 .1 .0)
 
--- src/lib.rt:31:1
 same-length-5 : tie.Need-same-length-5
 same-length-5 c = (c .before .before .before .before .number .kept .1 .1 .1 .0)
 
--- src/lib.rt:31:1
 returns : tie.Need-returns
 returns c = filled _ _ (c .before .before .before .before .before .before .before .before .before .before .before .before .before .before .before .before .before .before .before .before .before .before .before .before .before .before .before .pre) _ (c .before .before .before .before .before .before .before .before .before .before .before .before .before .before .before .before .build .ensures) ((c .before .before .before .before .before .before .before .before .before .before .before .before .before .before .before .before .build .kept .1 .1 .0) ∙ (c .before .before .before .before .before .before .before .before .before .before .before .before .before .before .before .before .before .before .before .before .before .before .before .before .before .before .before .pre .tags)) ((c .before .before .before .before .before .before .before .before .before .before .before .before .before .before .before .before .build .kept .1 .1 .1 .0) ∙ (c .before .before .before .before .before .before .before .before .before .before .before .before .before .before .before .before .before .before .before .before .before .before .before .before .before .before .before .pre .firsts)) _ _ _ (c .before .before .before .before .number .ensures)
 

@@ -1,33 +1,24 @@
+-- `reader::has_room` meets its contract.
 use Rattle.reader.proofs.Reading.{no-parents, no-tags, no-firsts, no-lasts, work-tells}
 use native.Mathlib.Omega.{arith}
-use mathlib.Core.Path.{sym, _∙_}
-use borrow.Author.Needs.{needs}
 use Rattle.reader.proofs.has_room.Statement.{statement}
 use Rattle.reader.proofs.has_room.Tie as tie
-use Rattle.reader.proofs.has_room.Reads as reads
-use Rattle.reader.proofs.has_room.Lts as lts
 
--- src/lib.rt:15:9
 returns : tie.Need-returns
 returns c = no-parents _ _ _ _ _ _ (c .if1 .taken)
 
--- src/lib.rt:18:9
 returns-2 : tie.Need-returns-2
 returns-2 c = no-tags _ _ _ _ _ _ (c .if2 .taken)
 
--- src/lib.rt:21:9
 returns-3 : tie.Need-returns-3
 returns-3 c = no-firsts _ _ _ _ _ _ (c .if3 .taken)
 
--- src/lib.rt:24:9
 returns-4 : tie.Need-returns-4
 returns-4 c = no-lasts _ _ _ _ _ _ (c .if4 .taken)
 
--- src/lib.rt:26:5
 mul-result : tie.Need-mul-result
 mul-result c = omega (arith, (c .before .before .before .before .pre))
 
--- src/lib.rt:10:1
 returns-5 : tie.Need-returns-5
 returns-5 c = work-tells _ _ _ _ _ _ (omega (arith, (c .before .before .before .if1 .left))) (omega (arith, (c .before .before .if2 .left))) (omega (arith, (c .before .if3 .left))) (omega (arith, (c .if4 .left)))
 

@@ -1,95 +1,69 @@
+-- `reader::read` meets its contract.
 use Rattle.reader.proofs.Reading.{counted, room-of, fill-asks, refused-reads, room-reads, accepted-reads, front-long}
 use borrow.Author.Tests.{not-true, not-false}
 use lib.Seq.{length-take-le}
 use native.Mathlib.Omega.{arith}
 use mathlib.Core.Path.{sym, _∙_}
-use borrow.Author.Needs.{needs}
 use Rattle.reader.proofs.read.Statement.{statement}
 use Rattle.reader.proofs.read.Tie as tie
-use Rattle.reader.proofs.read.Reads as reads
-use Rattle.reader.proofs.read.Lts as lts
-use Rattle.judge.proofs.judge.Reads as judge-reads
-use Rattle.reader.proofs.fill.Reads as fill-reads
-use Rattle.reader.proofs.has_room.Reads as has-room-reads
-use Rattle.seq.proofs.widen.Reads as widen-reads
 
--- src/lib.rt:63:9
 judge-requires : tie.Need-judge-requires
 judge-requires c κs = tt
 
--- src/lib.rt:65:9
 returns : tie.Need-returns
 returns c = refused-reads _ _ _ (c .before .before .judge .ensures) (c .if1 .taken)
 
--- src/lib.rt:67:9
 widen-requires : tie.Need-widen-requires
 widen-requires c κs = tt
 
--- src/lib.rt:68:9
 has-room-requires : tie.Need-has-room-requires
 has-room-requires c κs = omega (arith, (c .widen .ensures), counted _ _ (c .before .before .before .judge .ensures) (c .before .if1 .left) .few)
 
--- src/lib.rt:69:9
 returns-2 : tie.Need-returns-2
 returns-2 c = room-reads _ _ _ _ (c .before .before .before .before .before .judge .ensures) (c .before .before .before .if1 .left) (c .before .before .widen .ensures) (sym (c .before .has-room .ensures) ∙ not-true _ (c .if2 .taken))
 
--- src/lib.rt:77:9
 slice-relend-prefix-fill : tie.Need-slice-relend-prefix-fill
 slice-relend-prefix-fill c = room-of _ _ _ _ _ _ (sym (c .before .has-room .ensures) ∙ not-false _ (c .if2 .left)) .parents
 
--- src/lib.rt:77:9
 slice-aggregate-fill : tie.Need-slice-aggregate-fill
 slice-aggregate-fill c = sym (length-take-le _ _ (room-of _ _ _ _ _ _ (sym (c .before .before .has-room .ensures) ∙ not-false _ (c .before .if2 .left)) .parents))
 
--- src/lib.rt:78:9
 slice-relend-prefix-fill-2 : tie.Need-slice-relend-prefix-fill-2
 slice-relend-prefix-fill-2 c = room-of _ _ _ _ _ _ (sym (c .before .before .has-room .ensures) ∙ not-false _ (c .before .if2 .left)) .tags
 
--- src/lib.rt:78:9
 slice-aggregate-fill-2 : tie.Need-slice-aggregate-fill-2
 slice-aggregate-fill-2 c = sym (length-take-le _ _ (room-of _ _ _ _ _ _ (sym (c .before .before .before .has-room .ensures) ∙ not-false _ (c .before .before .if2 .left)) .tags))
 
--- src/lib.rt:79:9
 slice-relend-prefix-fill-3 : tie.Need-slice-relend-prefix-fill-3
 slice-relend-prefix-fill-3 c = room-of _ _ _ _ _ _ (sym (c .before .before .before .has-room .ensures) ∙ not-false _ (c .before .before .if2 .left)) .firsts
 
--- src/lib.rt:79:9
 slice-aggregate-fill-3 : tie.Need-slice-aggregate-fill-3
 slice-aggregate-fill-3 c = sym (length-take-le _ _ (room-of _ _ _ _ _ _ (sym (c .before .before .before .before .has-room .ensures) ∙ not-false _ (c .before .before .before .if2 .left)) .firsts))
 
--- src/lib.rt:80:9
 slice-relend-prefix-fill-4 : tie.Need-slice-relend-prefix-fill-4
 slice-relend-prefix-fill-4 c = room-of _ _ _ _ _ _ (sym (c .before .before .before .before .has-room .ensures) ∙ not-false _ (c .before .before .before .if2 .left)) .lasts
 
--- src/lib.rt:80:9
 slice-aggregate-fill-4 : tie.Need-slice-aggregate-fill-4
 slice-aggregate-fill-4 c = sym (length-take-le _ _ (room-of _ _ _ _ _ _ (sym (c .before .before .before .before .before .has-room .ensures) ∙ not-false _ (c .before .before .before .before .if2 .left)) .lasts))
 
--- src/lib.rt:75:5
 fill-requires : tie.Need-fill-requires
 fill-requires c κs = let k = room-of _ _ _ _ _ _ (sym (c .before .before .before .before .before .before .has-room .ensures) ∙ not-false _ (c .before .before .before .before .before .if2 .left)) in fill-asks _ _ _ _ (c .before .before .before .before .before .before .before .before .before .before .judge .ensures) (c .before .before .before .before .before .before .before .before .if1 .left) (c .before .before .before .before .before .before .before .widen .ensures) (length-take-le _ _ (k .parents)) (length-take-le _ _ (k .tags)) (length-take-le _ _ (k .firsts)) (length-take-le _ _ (k .lasts)) (k .work)
 
--- src/lib.rt:51:1
 same-length : tie.Need-same-length
 same-length c = front-long _ (c .before .before .before .before .before .before .before .before .before .before .fill .last .1 .0) _ (room-of _ _ _ _ _ _ (sym (c .before .before .before .before .before .before .before .before .before .before .before .before .before .before .before .before .before .has-room .ensures) ∙ not-false _ (c .before .before .before .before .before .before .before .before .before .before .before .before .before .before .before .before .if2 .left)) .parents) (c .before .before .before .before .before .before .before .before .before .before .fill .kept .1 .0)
 
--- src/lib.rt:51:1
 same-length-2 : tie.Need-same-length-2
 same-length-2 c = front-long _ (c .before .before .before .before .before .before .before .before .before .before .fill .last .1 .1 .0) _ (room-of _ _ _ _ _ _ (sym (c .before .before .before .before .before .before .before .before .before .before .before .before .before .before .before .before .before .has-room .ensures) ∙ not-false _ (c .before .before .before .before .before .before .before .before .before .before .before .before .before .before .before .before .if2 .left)) .tags) (c .before .before .before .before .before .before .before .before .before .before .fill .kept .1 .1 .0)
 
--- src/lib.rt:51:1
 same-length-3 : tie.Need-same-length-3
 same-length-3 c = front-long _ (c .before .before .before .before .before .before .before .before .before .before .fill .last .1 .1 .1 .0) _ (room-of _ _ _ _ _ _ (sym (c .before .before .before .before .before .before .before .before .before .before .before .before .before .before .before .before .before .has-room .ensures) ∙ not-false _ (c .before .before .before .before .before .before .before .before .before .before .before .before .before .before .before .before .if2 .left)) .firsts) (c .before .before .before .before .before .before .before .before .before .before .fill .kept .1 .1 .1 .0)
 
--- src/lib.rt:51:1
 same-length-4 : tie.Need-same-length-4
 same-length-4 c = front-long _ (c .before .before .before .before .before .before .before .before .before .before .fill .last .1 .1 .1 .1 .0) _ (room-of _ _ _ _ _ _ (sym (c .before .before .before .before .before .before .before .before .before .before .before .before .before .before .before .before .before .has-room .ensures) ∙ not-false _ (c .before .before .before .before .before .before .before .before .before .before .before .before .before .before .before .before .if2 .left)) .lasts) (c .before .before .before .before .before .before .before .before .before .before .fill .kept .1 .1 .1 .1 .0)
 
--- src/lib.rt:51:1
 same-length-5 : tie.Need-same-length-5
 same-length-5 c = (c .before .before .before .before .before .before .before .before .before .before .fill .kept .1 .1 .1 .1 .1 .0)
 
--- src/lib.rt:51:1
 returns-3 : tie.Need-returns-3
 returns-3 c = accepted-reads _ _ _ _ (c .before .before .before .before .before .before .before .before .before .before .before .before .before .before .before .before .before .before .before .before .before .judge .ensures) (c .before .before .before .before .before .before .before .before .before .before .before .before .before .before .before .before .before .before .before .if1 .left) (c .before .before .before .before .before .before .before .before .before .before .before .before .before .before .before .before .before .before .widen .ensures) (sym (c .before .before .before .before .before .before .before .before .before .before .before .before .before .before .before .before .before .has-room .ensures) ∙ not-false _ (c .before .before .before .before .before .before .before .before .before .before .before .before .before .before .before .before .if2 .left)) _ (c .before .before .before .before .before .before .before .before .before .before .fill .ensures)
 

@@ -1,114 +1,84 @@
+-- `judge::turns::close_turn` meets its contract.
 use Prim.Native.Nat.{_+_}
 use Rattle.judge.proofs.Numbers.{name-within, common-fits, close-outside, close-differs, close-longer, close-broken, close-on}
 use borrow.Author.Tests.{not-true, not-false}
 use native.Mathlib.Omega.{arith}
-use mathlib.Core.Path.{sym, _∙_}
-use borrow.Author.Needs.{needs}
+use mathlib.Core.Path.{_∙_}
 use Rattle.judge.proofs.turns.close_turn.Statement.{statement}
 use Rattle.judge.proofs.turns.close_turn.Tie as tie
-use Rattle.judge.proofs.turns.close_turn.Reads as reads
-use Rattle.judge.proofs.turns.close_turn.Lts as lts
-use Rattle.bytes.proofs.common.Reads as common-reads
-use Rattle.judge.proofs.turns.broken.Reads as broken-reads
-use Rattle.judge.proofs.turns.goes.Reads as goes-reads
 
--- src/turns.rt:186:23
 add-broken : tie.Need-add-broken
 add-broken c = omega (arith, (c .before .before .before .before .before .pre .place), (c .before .before .before .before .before .pre .holds .short))
 
--- src/turns.rt:186:9
 broken-requires : tie.Need-broken-requires
 broken-requires c κs = omega (arith, (c .before .before .before .before .before .pre .place), (c .before .before .before .before .before .pre .holds .short))
 
--- src/turns.rt:186:9
 returns : tie.Need-returns
 returns c = (c .broken .ensures) ∙ close-outside _ _ _ _ _ _ (c .before .if1 .taken)
 
--- src/turns.rt:188:15
 sub-top : tie.Need-sub-top
 sub-top c = omega (arith, (c .before .if1 .left))
 
--- src/turns.rt:189:16
 mul-from : tie.Need-mul-from
 mul-from c = omega (arith, (c .before .before .before .before .before .before .pre .holds .deep))
 
--- src/turns.rt:189:16
 shared-slice-read-from : tie.Need-shared-slice-read-from
 shared-slice-read-from c = omega (arith, (c .before .before .before .before .before .before .before .pre .holds .deep), (c .before .before .before .before .before .before .before .pre .holds .starts), (c .before .before .if1 .left))
 
--- src/turns.rt:190:16
 mul-size : tie.Need-mul-size
 mul-size c = omega (arith, (c .before .before .before .before .before .before .before .pre .holds .deep))
 
--- src/turns.rt:190:16
 shared-slice-read-size : tie.Need-shared-slice-read-size
 shared-slice-read-size c = omega (arith, (c .before .before .before .before .before .before .before .before .pre .holds .deep), (c .before .before .before .before .before .before .before .before .pre .holds .sizes), (c .before .before .before .if1 .left))
 
--- src/turns.rt:191:16
 add-name : tie.Need-add-name
 add-name c = omega (arith, (c .before .before .before .before .before .before .before .before .pre .place), (c .before .before .before .before .before .before .before .before .pre .holds .short))
 
--- src/turns.rt:192:42
 add-common : tie.Need-add-common
 add-common c = omega (arith, name-within _ _ _ _ (c .before .before .before .before .before .before .before .before .pre .holds) (c .before .before .before .if1 .left), (c .before .before .before .before .before .before .before .before .pre .holds .short))
 
--- src/turns.rt:192:30
 sub-common : tie.Need-sub-common
 sub-common c = omega arith
 
--- src/turns.rt:192:30
 part-common-start : tie.Need-part-common-start
 part-common-start c = omega (arith, name-within _ _ _ _ (c .before .before .before .before .before .before .before .before .pre .holds) (c .before .before .before .if1 .left))
 
--- src/turns.rt:192:30
 part-common-end : tie.Need-part-common-end
 part-common-end c = omega (arith, name-within _ _ _ _ (c .before .before .before .before .before .before .before .before .pre .holds) (c .before .before .before .if1 .left))
 
--- src/turns.rt:192:9
 common-requires : tie.Need-common-requires
 common-requires c κs = tt
 
--- src/turns.rt:194:23
 add-broken-2 : tie.Need-add-broken-2
 add-broken-2 c = omega (arith, (c .before .before .before .before .before .before .before .before .before .before .before .pre .place), (c .before .before .before .before .before .before .before .before .before .before .before .pre .holds .short), common-fits _ (c .before .before .before .before .before .before .before .before .before .before .before .args .text .now) ((c .before .before .before .before .before .before .before .before .before .before .before .args .at) + 2) (c .before .common .ensures))
 
--- src/turns.rt:194:9
 broken-requires-2 : tie.Need-broken-requires-2
 broken-requires-2 c κs = omega (arith, (c .before .before .before .before .before .before .before .before .before .before .before .pre .place), (c .before .before .before .before .before .before .before .before .before .before .before .pre .holds .short), common-fits _ (c .before .before .before .before .before .before .before .before .before .before .before .args .text .now) ((c .before .before .before .before .before .before .before .before .before .before .before .args .at) + 2) (c .before .common .ensures))
 
--- src/turns.rt:194:9
 returns-2 : tie.Need-returns-2
 returns-2 c = (c .broken2 .ensures) ∙ close-differs _ _ _ _ _ _ (c .before .before .before .before .before .before .before .if1 .left) _ (c .before .before .common .ensures) (c .before .if2 .taken)
 
--- src/turns.rt:196:20
 add-if3 : tie.Need-add-if3
 add-if3 c = omega (arith, (c .before .before .before .before .before .before .before .before .before .before .before .pre .place), (c .before .before .before .before .before .before .before .before .before .before .before .pre .holds .short), name-within _ _ _ _ (c .before .before .before .before .before .before .before .before .before .before .before .pre .holds) (c .before .before .before .before .before .before .if1 .left))
 
--- src/turns.rt:197:23
 add-broken-3 : tie.Need-add-broken-3
 add-broken-3 c = omega (arith, (c .before .before .before .before .before .before .before .before .before .before .before .before .before .pre .place), (c .before .before .before .before .before .before .before .before .before .before .before .before .before .pre .holds .short), common-fits _ (c .before .before .before .before .before .before .before .before .before .before .before .before .before .args .text .now) ((c .before .before .before .before .before .before .before .before .before .before .before .before .before .args .at) + 2) (c .before .before .before .common .ensures))
 
--- src/turns.rt:197:9
 broken-requires-3 : tie.Need-broken-requires-3
 broken-requires-3 c κs = omega (arith, (c .before .before .before .before .before .before .before .before .before .before .before .before .before .pre .place), (c .before .before .before .before .before .before .before .before .before .before .before .before .before .pre .holds .short), common-fits _ (c .before .before .before .before .before .before .before .before .before .before .before .before .before .args .text .now) ((c .before .before .before .before .before .before .before .before .before .before .before .before .before .args .at) + 2) (c .before .before .before .common .ensures))
 
--- src/turns.rt:197:9
 returns-3 : tie.Need-returns-3
 returns-3 c = (c .broken3 .ensures) ∙ close-longer _ _ _ _ _ _ (c .before .before .before .before .before .before .before .before .before .if1 .left) _ (c .before .before .before .before .common .ensures) (c .before .if3 .taken)
 
--- src/turns.rt:200:9
 broken-requires-4 : tie.Need-broken-requires-4
 broken-requires-4 c κs = omega (arith, (c .before .before .before .before .before .before .before .before .before .before .before .before .before .before .before .pre .fits))
 
--- src/turns.rt:200:9
 returns-4 : tie.Need-returns-4
 returns-4 c = (c .broken4 .ensures) ∙ close-broken _ _ _ _ _ _ (c .before .before .before .before .before .before .before .before .before .before .before .if1 .left) _ (c .before .before .before .before .before .before .common .ensures) (c .before .before .before .before .before .if2 .left) (c .before .before .before .if3 .left) (not-true _ (c .before .if4 .taken))
 
--- src/turns.rt:202:5
 goes-requires : tie.Need-goes-requires
 goes-requires c κs = tt
 
--- src/turns.rt:181:1
 returns-5 : tie.Need-returns-5
 returns-5 c = (c .goes .ensures) ∙ close-on _ _ _ _ _ _ (c .before .before .before .before .before .before .before .before .before .before .before .if1 .left) _ (c .before .before .before .before .before .before .common .ensures) (c .before .before .before .before .before .if2 .left) (c .before .before .before .if3 .left) (not-false _ (c .before .if4 .left))
 

@@ -1,15 +1,11 @@
+-- `judge::turns::is_closed` meets its contract.
 use Rattle.judge.proofs.Numbers.{closed-open, closed-root}
-use borrow.Author.Needs.{needs}
 use Rattle.judge.proofs.turns.is_closed.Statement.{statement}
 use Rattle.judge.proofs.turns.is_closed.Tie as tie
-use Rattle.judge.proofs.turns.is_closed.Reads as reads
-use Rattle.judge.proofs.turns.is_closed.Lts as lts
 
--- src/turns.rt:107:9
 returns : tie.Need-returns
 returns c = closed-open _ _ (c .if1 .taken)
 
--- src/turns.rt:103:1
 returns-2 : tie.Need-returns-2
 returns-2 c = closed-root _ _ (c .if1 .left)
 

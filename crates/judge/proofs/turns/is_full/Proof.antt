@@ -1,15 +1,11 @@
+-- `judge::turns::is_full` meets its contract.
 use Rattle.judge.proofs.Numbers.{full-deep, full-many}
-use borrow.Author.Needs.{needs}
 use Rattle.judge.proofs.turns.is_full.Statement.{statement}
 use Rattle.judge.proofs.turns.is_full.Tie as tie
-use Rattle.judge.proofs.turns.is_full.Reads as reads
-use Rattle.judge.proofs.turns.is_full.Lts as lts
 
--- src/turns.rt:97:9
 returns : tie.Need-returns
 returns c = full-deep _ _ (c .if1 .taken)
 
--- src/turns.rt:93:1
 returns-2 : tie.Need-returns-2
 returns-2 c = full-many _ _ (c .if1 .left)
 

@@ -1,27 +1,19 @@
+-- `judge::turns::pass` meets its contract.
 use mathlib.Core.Path.{_∙_}
 use Rattle.judge.proofs.Numbers.{passed-broken, passed-on}
 use borrow.Author.Tests.{not-true, not-false}
-use borrow.Author.Needs.{needs}
 use Rattle.judge.proofs.turns.pass.Statement.{statement}
 use Rattle.judge.proofs.turns.pass.Tie as tie
-use Rattle.judge.proofs.turns.pass.Reads as reads
-use Rattle.judge.proofs.turns.pass.Lts as lts
-use Rattle.judge.proofs.turns.broken.Reads as broken-reads
-use Rattle.judge.proofs.turns.goes.Reads as goes-reads
 
--- src/turns.rt:118:9
 broken-requires : tie.Need-broken-requires
 broken-requires c κs = (c .before .before .pre)
 
--- src/turns.rt:118:9
 returns : tie.Need-returns
 returns c = (c .broken .ensures) ∙ passed-broken _ _ (not-true _ (c .before .if1 .taken))
 
--- src/turns.rt:120:5
 goes-requires : tie.Need-goes-requires
 goes-requires c κs = tt
 
--- src/turns.rt:113:1
 returns-2 : tie.Need-returns-2
 returns-2 c = (c .goes .ensures) ∙ passed-on _ _ (not-false _ (c .before .if1 .left))
 

@@ -1,35 +1,25 @@
+-- `judge::turns::space_turn` meets its contract.
 use mathlib.Core.Path.{_∙_}
 use Rattle.judge.proofs.Numbers.{space-broken, space-solid, space-on}
 use borrow.Author.Tests.{not-true, not-false}
-use borrow.Author.Needs.{needs}
 use Rattle.judge.proofs.turns.space_turn.Statement.{statement}
 use Rattle.judge.proofs.turns.space_turn.Tie as tie
-use Rattle.judge.proofs.turns.space_turn.Reads as reads
-use Rattle.judge.proofs.turns.space_turn.Lts as lts
-use Rattle.judge.proofs.turns.broken.Reads as broken-reads
-use Rattle.judge.proofs.turns.goes.Reads as goes-reads
 
--- src/turns.rt:129:9
 broken-requires : tie.Need-broken-requires
 broken-requires c κs = (c .before .before .pre)
 
--- src/turns.rt:129:9
 returns : tie.Need-returns
 returns c = (c .broken .ensures) ∙ space-broken _ _ (not-true _ (c .before .if1 .taken))
 
--- src/turns.rt:132:9
 broken-requires-2 : tie.Need-broken-requires-2
 broken-requires-2 c κs = (c .before .before .before .before .pre)
 
--- src/turns.rt:132:9
 returns-2 : tie.Need-returns-2
 returns-2 c = (c .broken2 .ensures) ∙ space-solid _ _ (c .before .if2 .taken)
 
--- src/turns.rt:134:5
 goes-requires : tie.Need-goes-requires
 goes-requires c κs = tt
 
--- src/turns.rt:124:1
 returns-3 : tie.Need-returns-3
 returns-3 c = (c .goes .ensures) ∙ space-on _ _ (not-false _ (c .before .before .before .if1 .left)) (c .before .if2 .left)
 

@@ -1,79 +1,56 @@
+-- `judge::turns::tag_turn` meets its contract.
 use Rattle.judge.proofs.Numbers.{tag-closed, tag-broken, tag-full, tag-opens, tag-stays}
 use borrow.Author.Tests.{not-true, not-false}
 use native.Mathlib.Omega.{arith}
 use mathlib.Core.Path.{sym, _∙_}
-use borrow.Author.Needs.{needs}
 use Rattle.judge.proofs.turns.tag_turn.Statement.{statement}
 use Rattle.judge.proofs.turns.tag_turn.Tie as tie
-use Rattle.judge.proofs.turns.tag_turn.Reads as reads
-use Rattle.judge.proofs.turns.tag_turn.Lts as lts
-use Rattle.judge.proofs.turns.broken.Reads as broken-reads
-use Rattle.judge.proofs.turns.goes.Reads as goes-reads
-use Rattle.judge.proofs.turns.is_closed.Reads as is-closed-reads
-use Rattle.judge.proofs.turns.is_full.Reads as is-full-reads
-use Rattle.judge.proofs.turns.over.Reads as over-reads
 
--- src/turns.rt:165:8
 is-closed-requires : tie.Need-is-closed-requires
 is-closed-requires c κs = tt
 
--- src/turns.rt:166:23
 add-broken : tie.Need-add-broken
 add-broken c = omega (arith, (c .before .before .pre .place))
 
--- src/turns.rt:166:9
 broken-requires : tie.Need-broken-requires
 broken-requires c κs = omega (arith, (c .before .before .pre .place))
 
--- src/turns.rt:166:9
 returns : tie.Need-returns
 returns c = (c .broken .ensures) ∙ tag-closed _ _ _ (sym (c .before .before .is-closed .ensures) ∙ (c .before .if1 .taken))
 
--- src/turns.rt:169:9
 broken-requires-2 : tie.Need-broken-requires-2
 broken-requires-2 c κs = omega (arith, (c .before .before .before .before .pre .fits))
 
--- src/turns.rt:169:9
 returns-2 : tie.Need-returns-2
 returns-2 c = (c .broken2 .ensures) ∙ tag-broken _ _ _ (sym (c .before .before .before .before .is-closed .ensures) ∙ (c .before .before .before .if1 .left)) (not-true _ (c .before .if2 .taken))
 
--- src/turns.rt:171:8
 is-full-requires : tie.Need-is-full-requires
 is-full-requires c κs = tt
 
--- src/turns.rt:172:9
 over-requires : tie.Need-over-requires
 over-requires c κs = tt
 
--- src/turns.rt:172:9
 returns-3 : tie.Need-returns-3
 returns-3 c = (c .over .ensures) ∙ tag-full _ _ _ (sym (c .before .before .before .before .before .before .is-closed .ensures) ∙ (c .before .before .before .before .before .if1 .left)) (not-false _ (c .before .before .before .if2 .left)) (sym (c .before .before .is-full .ensures) ∙ (c .before .if3 .taken))
 
--- src/turns.rt:175:21
 add-goes : tie.Need-add-goes
 add-goes c = omega (arith, (c .before .before .before .before .before .before .before .before .before .pre .deep))
 
--- src/turns.rt:175:34
 add-goes-2 : tie.Need-add-goes-2
 add-goes-2 c = omega (arith, (c .before .before .before .before .before .before .before .before .before .before .pre .many))
 
--- src/turns.rt:175:9
 goes-requires : tie.Need-goes-requires
 goes-requires c κs = tt
 
--- src/turns.rt:175:9
 returns-4 : tie.Need-returns-4
 returns-4 c = (c .goes .ensures) ∙ tag-opens _ _ _ (sym (c .before .before .before .before .before .before .before .before .before .before .is-closed .ensures) ∙ (c .before .before .before .before .before .before .before .before .before .if1 .left)) (not-false _ (c .before .before .before .before .before .before .before .if2 .left)) (sym (c .before .before .before .before .before .before .is-full .ensures) ∙ (c .before .before .before .before .before .if3 .left)) (c .before .before .before .if4 .taken) _ _ (omega arith) (omega arith)
 
--- src/turns.rt:177:19
 add-goes-3 : tie.Need-add-goes-3
 add-goes-3 c = omega (arith, (c .before .before .before .before .before .before .before .before .before .pre .many))
 
--- src/turns.rt:177:5
 goes-requires-2 : tie.Need-goes-requires-2
 goes-requires-2 c κs = tt
 
--- src/turns.rt:161:1
 returns-5 : tie.Need-returns-5
 returns-5 c = (c .goes2 .ensures) ∙ tag-stays _ _ _ (sym (c .before .before .before .before .before .before .before .before .before .is-closed .ensures) ∙ (c .before .before .before .before .before .before .before .before .if1 .left)) (not-false _ (c .before .before .before .before .before .before .if2 .left)) (sym (c .before .before .before .before .before .is-full .ensures) ∙ (c .before .before .before .before .if3 .left)) (c .before .before .if4 .left) _ (omega arith)
 
