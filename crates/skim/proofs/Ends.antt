@@ -126,7 +126,7 @@ unfolding low
 data-ends t w = sym (span-past low (other '<') (other-apart low '<' refl) t) ∙ sym (data-size b0 0 t zero-le w)
 
 -- ---- a `>`
-pub close-one : (t : List ℕ) → closeStop t .whole ≡ true → closeStop t .size ≡ 1
+close-one : (t : List ℕ) → closeStop t .whole ≡ true → closeStop t .size ≡ 1
 unfolding closeStop
 close-one [] w = absurd (false≢true w)
 close-one (x ∷ t) w = ⊎-elim (λ q. rw q) (λ q. absurd (false≢true (rw q at w))) (bool-cases (eqb x '>'))

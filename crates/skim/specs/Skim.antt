@@ -31,7 +31,7 @@ skimData t =
     let m = span low t in
     piece DATA m (stop (m + span (other '<') (drop m t)) true)
 
--- It ends three bytes on from the first `--` behind its opening of four bytes; or from the end of t, where there is none.
+-- It ends three bytes on from the first `--` behind its opening of four bytes; where there is none, from the end of t, or of those four bytes if t is shorter.
 unfoldable pub skimComment : List ℕ → pieces.Piece
 skimComment t = piece COMMENT 0 (stop (4 + until ('-' ∷ '-' ∷ []) (drop 4 t) + 3) true)
 

@@ -63,7 +63,7 @@ fn tag(text: &[u8], at: usize) -> markup::Piece
     }
 }
 
-// The piece at a place of a text: END at the end of the text, and at any place past it.
+// The piece at a place of a text: END at the end of the text, and at any place past it. It is always whole; of markup the middle is where it begins.
 pub fn skim_at(text: &[u8], at: usize) -> markup::Piece
     ensures { λ r. ⌜ r ≡ skimAt (now (text .entry)) at ⌝ }
 {
