@@ -13,8 +13,19 @@ use std::ops::Range;
 const CASES: u64 = 6_000;
 const ENOUGH: usize = 5;
 
-#[derive(Clone, Copy, PartialEq, Eq, Debug)]
-enum Slip {
+/// The slips, and a list of all of them.
+macro_rules! slips {
+    ($($slip:ident,)*) => {
+        #[derive(Clone, Copy, PartialEq, Eq, Debug)]
+        enum Slip {
+            $($slip,)*
+        }
+
+        const ALL: &[Slip] = &[$(Slip::$slip,)*];
+    };
+}
+
+slips! {
     // What is markup.
     EndNameLonger,
     EndNameShorter,
@@ -96,75 +107,6 @@ use Slip::*;
 
 /// Slips that only a large text can tell.
 const LARGE: &[Slip] = &[Node65536, Node65535Refused, Bytes16777217, Bytes16777216Refused];
-
-const SMALL: &[Slip] = &[
-    EndNameLonger,
-    EndNameShorter,
-    EndNameInAnyCase,
-    BracketsLetThrough,
-    BracketsHeldOverAComment,
-    BracketsHeldOverAReference,
-    BracketsForgottenAfterAThird,
-    DashesLetThrough,
-    ShortestCommentTaken,
-    CommentBeginningWithDashRefused,
-    SecondRoot,
-    TextAfterTheRoot,
-    CommentBeforeTheRootRefused,
-    WhiteSpaceBeforeTheRootRefused,
-    AnyEntity,
-    CharacterReference,
-    Attribute,
-    DeleteRefused,
-    ControlLetThrough,
-    HighByteLetThrough,
-    TabRefusedInATag,
-    TabInAName,
-    WhiteSpaceBeforeAName,
-    WhiteSpaceAfterTheSlash,
-    DigitBeginsAName,
-    ColonRefused,
-    CarriageReturnRefused,
-    GreaterRefusedInData,
-    PlaceLate,
-    PlaceEarly,
-    PlaceOfTheTag,
-    EndNameAtItsEnd,
-    ReferenceAtItsStart,
-    SecondRootAtItsAngle,
-    LoneEndTagAtItsAngle,
-    CommentPartsData,
-    WhiteSpaceIsANode,
-    WhiteSpaceTrimmed,
-    CommentsAtTheEndsKept,
-    DataFromItsFirstSolidByte,
-    LastPlaceAfterTheNode,
-    ElementEndsAtItsFirstTag,
-    TagsByTheFirstLetter,
-    TagsInAnyCase,
-    TagsByTheLastName,
-    TagsByLengthAndFirstLetter,
-    TagsFromZero,
-    DataCountsAsAName,
-    ParentIsTheNodeBefore,
-    Level65,
-    Level64Refused,
-    TreeBeforeAnEarlierMarkup,
-    MetAtTheAngle,
-    DataMetWhereItEnds,
-    DataMetAtWhiteSpace,
-    BrokenReferenceNotMet,
-    TreeGivesTheByte,
-    RoomBeforeMarkup,
-    RoomGivesWhatIsLent,
-    TwoRowsOfWork,
-    WorkNeedsNone,
-    RoomForgetsLasts,
-    WrittenBeforeARefusal,
-    WorkStays,
-    AllWorkIsZero,
-    AllRowsAreZeroBehind,
-];
 
 enum Stop {
     Markup(usize),
@@ -751,7 +693,8 @@ fn hold(told: &[(Slip, usize)], enough: usize) {
 
 #[test]
 fn slips_are_told_apart() {
-    let mut told: Vec<(Slip, usize)> = SMALL.iter().map(|&slip| (slip, 0)).collect();
+    let small_ones = ALL.iter().filter(|slip| !LARGE.contains(slip));
+    let mut told: Vec<(Slip, usize)> = small_ones.map(|&slip| (slip, 0)).collect();
     for number in 0..CASES {
         let (call, ..) = small(1, number);
         let right = judge(&call);
