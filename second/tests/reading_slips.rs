@@ -557,18 +557,7 @@ impl Model<'_> {
 
 /// The outcome of a call by the reader with a slip.
 fn reads(call: &Reading, slip: Option<Slip>) -> Read {
-    let mut after = Read {
-        reply: Reply {
-            refusal: SIZE,
-            place: 0,
-            total: 0,
-        },
-        parents: call.parents.clone(),
-        tags: call.tags.clone(),
-        firsts: call.firsts.clone(),
-        lasts: call.lasts.clone(),
-        work: call.work.clone(),
-    };
+    let mut after = call.refused(SIZE, 0, 0);
     let longest = match slip {
         Some(Bytes16777217) => 16_777_217,
         Some(Bytes16777216Refused) => 16_777_215,

@@ -27,7 +27,8 @@ use Rattle.profile.proofs.Complete.{tree-read}
 use Rattle.profile.proofs.Markup.{none-some}
 use Rattle.profile.proofs.Check.{keys-length}
 use Rattle.judge.specs.Judge.{longest, maxLevel, maxNodes, inNumbers, judgeReply}
-use Rattle.judge.proofs.Meaning.{Kept, accepted-means}
+use Rattle.judge.specs.Meaning.{Kept}
+use Rattle.judge.proofs.Meaning.{accepted-means}
 use Rattle.names.specs.Names.{Numbered, names}
 use Rattle.names.specs.Names as names
 use Rattle.reader.specs.Inner.{Rows, rows, mark, BuildPre, Built, FillPre, Filled}

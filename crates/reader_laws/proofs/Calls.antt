@@ -1,30 +1,31 @@
 -- The replies of a call that reads, by the grammar alone: each is given exactly where it is true.
+--   size-first         SIZE exactly for a text that is too long
+--   room-last          ROOM, with the nodes needed, exactly for the texts of the profile that keep the limits and do not fit
 --   profile-accepted   accepted exactly the texts of the profile that keep the limits and fit; what is written is the tree of the text
 --   markup-first       MARKUP's place is the first byte at which no text of the profile continues, where no node over a limit is met before
 --   tree-first         TREE's place is the first node over a limit, where nothing up to the byte at which it is met breaks the markup
 -- Letters as in specs/Calls; r the reply. Assumes nothing.
-use Prim.Native.Nat.{ℕ, _*_}
+use Prim.Native.Nat.{ℕ, _*_, _<_}
 use mathlib.Core.Path.{_≡_, refl, sym, ap, _∙_}
 use mathlib.Core.Logic.{_↔_}
 use mathlib.Core.List.{List}
 use mathlib.Core.Bool.{Bool, true, false, cond}
-use native.Mathlib.Omega.{arith}
 use lib.Dec.{eqb}
 use lib.ListN.{length}
 use borrow.Author.Tests.{eqb-true, eqb-false}
 use Rattle.seq.specs.Memory.{zeroed, over}
-use Rattle.index.specs.Replies.{accepted, TREE, ROOM, refused, totalled, keptOr}
+use Rattle.index.specs.Replies.{accepted, SIZE, TREE, ROOM, refused, totalled, keptOr}
 use Rattle.index.specs.declared.Reply.{Reply}
 use Rattle.profile.specs.Grammar.{Document, text}
 use Rattle.profile.specs.Tree.{tree}
 use Rattle.profile.specs.Limits.{keysOf, firstOver}
-use Rattle.profile.specs.Limits as limits
 use Rattle.profile.specs.Reader.{treeOf}
 use Rattle.profile.proofs.Complete.{tree-read}
-use Rattle.judge.specs.Judge.{MARKUP, maxLevel, maxNodes, judgeReply}
-use Rattle.judge.proofs.Meaning.{Kept, accepted-means, accepted-given, markup-means, markup-given, tree-means, tree-given}
+use Rattle.judge.specs.Judge.{MARKUP, longest, maxLevel, maxNodes, judgeReply}
+use Rattle.judge.proofs.Meaning.{size-means, size-given, no-room, accepted-total, accepted-means, accepted-given, markup-means, markup-given, tree-means, tree-given}
 use Rattle.reader.specs.Read.{Lent, fitsIn, readReply, parentsOf, tagsIn, firstsOf, lastsOf, Reads}
-use Rattle.reader_laws.specs.Calls.{Rows, Taken, Broken, Overrun}
+use Rattle.judge.specs.Meaning.{Kept, BrokenAt, OverAt}
+use Rattle.reader_laws.specs.Calls.{Rows, Taken, Cramped}
 
 -- ---- the reply of the call and the judge's
 -- A refusal but ROOM is the judge's.
@@ -48,35 +49,14 @@ judged T l r a b = (λ e. by-tests (eqb (judgeReply T .refusal) accepted) (fitsI
         by-test true q = absurd (a (eqb-true (r .refusal) accepted q))
         by-test false q = refl
 
-seven-zero : _≡_ {A = ℕ} 7 0 → ⊥
-seven-zero z = omega arith
-
-seven-five : _≡_ {A = ℕ} 7 5 → ⊥
-seven-five z = omega arith
-
-two-zero : _≡_ {A = ℕ} 2 0 → ⊥
-two-zero z = omega arith
-
-two-five : _≡_ {A = ℕ} 2 5 → ⊥
-two-five z = omega arith
-
-five-zero : _≡_ {A = ℕ} 5 0 → ⊥
-five-zero z = omega arith
-
 -- ---- MARKUP and TREE
-pub markup-first : (T : List ℕ) (l : Lent) (i : ℕ) → (readReply T l ≡ refused MARKUP i) ↔ Broken T i
+pub markup-first : (T : List ℕ) (l : Lent) (i : ℕ) → (readReply T l ≡ refused MARKUP i) ↔ BrokenAt T i
 markup-first T l i =
-    let j = judged T l (refused MARKUP i) seven-zero seven-five in (
-      λ e. let m = markup-means T i (j .0 e) in record { short = m .short; breaks = m .breaks },
-      λ b. j .1 (markup-given T i (record { short = b .short; breaks = b .breaks })),
-    )
+    let j = judged T l (refused MARKUP i) (eqb-false 7 0 refl) (eqb-false 7 5 refl) in (λ e. markup-means T i (j .0 e), λ b. j .1 (markup-given T i b))
 
-pub tree-first : (T : List ℕ) (l : Lent) (v : ℕ) → (readReply T l ≡ refused TREE v) ↔ Overrun T v
+pub tree-first : (T : List ℕ) (l : Lent) (v : ℕ) → (readReply T l ≡ refused TREE v) ↔ OverAt T v
 tree-first T l v =
-    let j = judged T l (refused TREE v) two-zero two-five in (
-      λ e. let m = tree-means T v (j .0 e) in record { short = m .short; over = m .over },
-      λ b. j .1 (tree-given T v (record { short = b .short; over = b .over })),
-    )
+    let j = judged T l (refused TREE v) (eqb-false 2 0 refl) (eqb-false 2 5 refl) in (λ e. tree-means T v (j .0 e), λ b. j .1 (tree-given T v b))
 
 -- ---- acceptance
 -- The judge accepts too, and there is room.
@@ -91,12 +71,34 @@ both-of T l n e = by-tests (eqb (judgeReply T .refusal) accepted) (fitsIn (judge
     by-tests : (x y : Bool) → eqb (judgeReply T .refusal) accepted ≡ x → fitsIn (judgeReply T .total) l ≡ y →
         cond x (cond y (judgeReply T) (totalled ROOM (judgeReply T .total))) (judgeReply T) ≡ totalled accepted n → Both T l n
     by-tests true true q f e = record { judge = e; room = sym (ap (λ (r : Reply). fitsIn (r .total) l) e) ∙ f }
-    by-tests true false q f e = absurd (five-zero (ap (λ (r : Reply). r .refusal) e))
+    by-tests true false q f e = absurd (eqb-false 5 0 refl (ap (λ (r : Reply). r .refusal) e))
     by-tests false y q f e = absurd (eqb-false (judgeReply T .refusal) accepted q (ap (λ (r : Reply). r .refusal) e))
 
 of-both : (T : List ℕ) (l : Lent) (n : ℕ) → Both T l n → readReply T l ≡ totalled accepted n
 unfolding readReply
 of-both T l n b = ap (λ x. cond (eqb (x .refusal) accepted) (cond (fitsIn (x .total) l) x (totalled ROOM (x .total))) x) (b .judge) ∙ ap (λ y. cond y (totalled accepted n) (totalled ROOM n)) (b .room)
+
+-- ---- SIZE and ROOM
+pub size-first : (T : List ℕ) (l : Lent) → (readReply T l ≡ refused SIZE 0) ↔ (longest < length T)
+size-first T l = let j = judged T l (refused SIZE 0) (eqb-false 1 0 refl) (eqb-false 1 5 refl) in (λ e. size-means T (j .0 e), λ b. j .1 (size-given T b))
+
+pub room-last : (T : List ℕ) (l : Lent) (n : ℕ) → (readReply T l ≡ totalled ROOM n) ↔ Cramped T l n
+unfolding readReply
+room-last T l n = (λ e. by-tests (eqb (judgeReply T .refusal) accepted) (fitsIn (judgeReply T .total) l) refl refl e, given)
+  where
+    by-tests : (x y : Bool) → eqb (judgeReply T .refusal) accepted ≡ x → fitsIn (judgeReply T .total) l ≡ y →
+        cond x (cond y (judgeReply T) (totalled ROOM (judgeReply T .total))) (judgeReply T) ≡ totalled ROOM n → Cramped T l n
+    by-tests true true q f e = absurd (eqb-false 5 0 refl (sym (ap (λ (r : Reply). r .refusal) e) ∙ eqb-true (judgeReply T .refusal) accepted q))
+    by-tests true false q f e = record { kept = accepted-means T n (accepted-total T n (eqb-true (judgeReply T .refusal) accepted q) total); short = sym (ap (λ i. fitsIn i l) total) ∙ f }
+      where
+        total : judgeReply T .total ≡ n
+        total = ap (λ (r : Reply). r .total) e
+    by-tests false y q f e = absurd (no-room T (ap (λ (r : Reply). r .refusal) e))
+
+    given : Cramped T l n → cond (eqb (judgeReply T .refusal) accepted) (cond (fitsIn (judgeReply T .total) l) (judgeReply T) (totalled ROOM (judgeReply T .total))) (judgeReply T) ≡ totalled ROOM n
+    given b =
+        ap (λ x. cond (eqb (x .refusal) accepted) (cond (fitsIn (x .total) l) x (totalled ROOM (x .total))) x) (accepted-given T n (b .kept)) ∙
+        ap (λ y. cond y (totalled accepted n) (totalled ROOM n)) (b .short)
 
 kept-over : (r : Reply) (n : ℕ) (new old : List ℕ) → r ≡ totalled accepted n → keptOr r new old ≡ over new old
 unfolding keptOr

@@ -1,14 +1,16 @@
 -- On a text that is accepted the pieces, one after the other, are the text, and its tags nest as its elements do.
 --   pieces-are-text   the bytes of the pieces are those of the text: each byte is in one piece
+--   reader-cuts       a call of the reader gives the first of the pieces from its place on, and leaves it where the others begin
 --   pieces-nest       the elements that the tags make, and the data between them, are the nodes of the text's tree
 -- Letters as in specs/Pieces; n how many nodes the text has. Assumes nothing.
 use Prim.Native.Nat.{ℕ, zero, suc, _+_, _≤_}
 use mathlib.Core.Path.{_≡_, refl, sym, ap, subst, _∙_}
 use mathlib.Core.Logic.{⊎-elim}
 use mathlib.Core.List.{List, [], _∷_, _++_}
-use mathlib.Core.Bool.{true}
+use mathlib.Core.Bool.{Bool, true, false, not, cond, _&&_}
 use mathlib.Core.Option.{some}
 use native.Mathlib.Omega.{arith}
+use denote.Ref.{now}
 use lib.Dec.{eqb}
 use lib.ListN.{length, take, drop, length-drop, take-append-drop}
 use lib.Seq.{drop-drop}
@@ -25,7 +27,12 @@ use Rattle.profile.proofs.Complete.{tree-read}
 use Rattle.profile.proofs.Turns.{close-kind, tag-kind}
 use Rattle.profile.proofs.Went.{Stands, Went, went, stands-start}
 use Rattle.profile.proofs.PieceLaws.{piece-cases}
-use Rattle.reader_laws.specs.Pieces.{cut, cutsFrom, cutsOf, joined, noting}
+use Rattle.markup.specs.declared.Piece as markup
+use Rattle.markup.specs.Pieces.{pieceAt}
+use Rattle.pieces.specs.declared.Reader.{Reader}
+use Rattle.pieces.specs.Reading.{placeAfter, Gives}
+use Rattle.pieces.proofs.Laws.{place-whole}
+use Rattle.reader_laws.specs.Pieces.{Cut, cut, cutsFrom, cutsOf, joined, noting}
 
 -- Only the end of a text is no piece.
 end-only : (t : List ℕ) → pieceOf t .kind ≡ END → t ≡ []
@@ -48,6 +55,40 @@ cuts-on : (k j : ℕ) (t : List ℕ) → pieceOf t .whole ≡ true → (pieceOf 
 unfolding cutsFrom
 cuts-on k j t w e = rw (w, ne-eqb (pieceOf t .kind) END e)
 
+-- ---- the reader's calls
+cuts-by : (k j : ℕ) (t : List ℕ) (l : List Cut) → (pieceOf t .whole ≡ true → cutsFrom k (j + pieceOf t .size) (drop (pieceOf t .size) t) ≡ l) →
+    cutsFrom (suc k) j t ≡ cond (pieceOf t .whole && not (eqb (pieceOf t .kind) END)) (cut j (pieceOf t) ∷ l) []
+unfolding cutsFrom
+cuts-by k j t l e = by-tests (pieceOf t .whole) (not (eqb (pieceOf t .kind) END)) e
+  where
+    by-tests : (a b : Bool) → (a ≡ true → cutsFrom k (j + pieceOf t .size) (drop (pieceOf t .size) t) ≡ l) →
+        cond (a && b) (cut j (pieceOf t) ∷ cutsFrom k (j + pieceOf t .size) (drop (pieceOf t .size) t)) [] ≡ cond (a && b) (cut j (pieceOf t) ∷ l) []
+    by-tests true true e = ap (λ l. cut j (pieceOf t) ∷ l) (e refl)
+    by-tests true false e = refl
+    by-tests false b e = refl
+
+-- What `next` gives, and where it leaves the reader: the pieces from its place on are that one, if it is whole and not the end, and those from its next place on.
+pub reader-cuts : (k : ℕ) (r : Reader) (p : markup.Piece) (s : Reader) → Gives r p s →
+    cutsFrom (suc k) (r .at) (drop (r .at) (now (r .text))) ≡
+    cond (p .whole && not (eqb (p .kind) END)) (cut (r .at) (pieceOf (drop (r .at) (now (r .text)))) ∷ cutsFrom k (s .at) (drop (s .at) (now (s .text)))) []
+unfolding pieceAt
+reader-cuts k r p s g =
+    cuts-by k (r .at) (drop (r .at) (now (r .text))) (cutsFrom k (s .at) (drop (s .at) (now (s .text)))) behind ∙
+    ap (λ (p : markup.Piece). cond (p .whole && not (eqb (p .kind) END)) (cut (r .at) (pieceOf (drop (r .at) (now (r .text)))) ∷ cutsFrom k (s .at) (drop (s .at) (now (s .text)))) []) (sym (g .piece))
+  where
+    size : ℕ
+    size = pieceOf (drop (r .at) (now (r .text))) .size
+
+    behind : pieceOf (drop (r .at) (now (r .text))) .whole ≡ true →
+        cutsFrom k (r .at + size) (drop size (drop (r .at) (now (r .text)))) ≡ cutsFrom k (s .at) (drop (s .at) (now (s .text)))
+    behind w =
+        ap (cutsFrom k (r .at + size)) (drop-drop size (r .at) (now (r .text))) ∙ ap (λ i. cutsFrom k i (drop i (now (r .text)))) place ∙
+        sym (ap (λ (s : Reader). cutsFrom k (s .at) (drop (s .at) (now (s .text)))) (g .moved))
+      where
+        place : r .at + size ≡ placeAfter p (r .at)
+        place = sym (ap (λ (p : markup.Piece). p .end) (g .piece)) ∙ place-whole p (r .at) (ap (λ (p : markup.Piece). p .whole) (g .piece) ∙ w)
+
+-- ---- of an accepted text
 module _ (L N n : ℕ) (T : List ℕ) where
   -- From the place j on, where the reader stands.
   record Cuts (k j : ℕ) (p : Place) (m : Memory) : Type 0 where

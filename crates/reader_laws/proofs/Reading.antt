@@ -1,5 +1,4 @@
 -- What a text is read into: a lawful tree, and that of every document that has this text.
---   read-tree      the rows are those of the tree of any document with this text
 --   read-lawful    the tree check finds nothing in them
 --   read-no-tree   so the index check never gives TREE for them
 -- Letters: T text, n its nodes; I an index, w work. Assumes nothing.
@@ -10,20 +9,21 @@ use mathlib.Core.Bool.{Bool, true, false, cond, false≢true}
 use mathlib.Core.Option.{none}
 use native.Mathlib.Omega.{arith}
 use lib.Dec.{ltb}
-use lib.ListN.{length, getD}
+use lib.ListN.{length, length-map, getD}
 use borrow.Author.Tests.{le-ltb}
 use Rattle.tree.specs.Rules.{treeBad}
 use Rattle.index.specs.Index.{Index, nodes, words}
 use Rattle.index.specs.Rules.{listsBad, countsBad}
 use Rattle.index.specs.Replies.{accepted, SIZE, TREE, LIST, COUNT, refused, totalled, sizeOk, refusing, checked, checkReply}
-use Rattle.profile.specs.Grammar.{Document, text}
+use Rattle.profile.specs.Grammar.{Document}
 use Rattle.profile.specs.Tree.{Node, tree}
 use Rattle.profile.specs.Limits.{keysOf, firstOver}
 use Rattle.profile.specs.Reader.{treeOf}
 use Rattle.profile.specs.Tags.{with, tagsAfter, tagsOf}
 use Rattle.profile.proofs.Complete.{tree-read}
 use Rattle.judge.specs.Judge.{judgeReply}
-use Rattle.judge.proofs.Meaning.{Kept, accepted-means}
+use Rattle.judge.specs.Meaning.{Kept}
+use Rattle.judge.proofs.Meaning.{accepted-means}
 use Rattle.reader.specs.Read.{parentsOf, tagsIn}
 use Rattle.reader.proofs.Reading.{counted, tags-count}
 use Rattle.reader.specs.Inner.{markOf}
@@ -50,28 +50,17 @@ tags-marked : (l : List (List ℕ)) (k : ℕ) → getD (map markOf l) k 0 ≡ 1 
 unfolding tagsOf
 tags-marked l k e f = tags-named [] l k e f
 
-names-length : (ns : List Node) → length (map (λ (a : Node). a .name) ns) ≡ length ns
-names-length [] = refl
-names-length (a ∷ ns) = ap suc (names-length ns)
-
-parents-length : (ns : List Node) → length (parentsOf ns) ≡ length ns
-parents-length [] = refl
-parents-length (a ∷ ns) = ap suc (parents-length ns)
-
 marks-names : (ns : List Node) → marksOf ns ≡ map markOf (map (λ (a : Node). a .name) ns)
 marks-names [] = refl
 marks-names (a ∷ ns) = ap (λ l. markOf (a .name) ∷ l) (marks-names ns)
 
 -- ---- the tree
-pub read-tree : (d : Document) → treeOf (text d) ≡ tree d
-read-tree = tree-read
-
 pub read-lawful : (T : List ℕ) (n : ℕ) → judgeReply T ≡ totalled accepted n → treeBad (parentsOf (treeOf T)) (tagsIn (treeOf T)) ≡ n
 read-lawful T n e =
     ap (λ ns. treeBad (parentsOf ns) (tagsIn ns)) tree-is ∙
-    tree-lawful d (tagsIn (tree d)) clear (tags-count (map (λ (a : Node). a .name) (tree d)) ∙ names-length (tree d))
+    tree-lawful d (tagsIn (tree d)) clear (tags-count (map (λ (a : Node). a .name) (tree d)) ∙ length-map (tree d) (λ (a : Node). a .name))
     (λ k l m. tags-marked (map (λ (a : Node). a .name) (tree d)) k (sym (ap (λ z. getD z k 0) (marks-names (tree d))) ∙ m)) ∙
-    parents-length (tree d) ∙ ap length nodes-are ∙ sym (kept .total)
+    length-map (tree d) (λ (a : Node). a .parent) ∙ ap length nodes-are ∙ sym (kept .total)
   where
     kept : Kept T n
     kept = accepted-means T n e
@@ -106,16 +95,13 @@ read-no-tree T n e I w p t =
         bad = ap (λ z. treeBad z (I .tags)) p ∙ ap (treeBad (parentsOf (treeOf T))) t ∙ read-lawful T n e
 
         size : length (I .parents) ≡ n
-        size = ap length p ∙ parents-length (treeOf T) ∙ counted-nodes T n e
+        size = ap length p ∙ length-map (treeOf T) (λ (a : Node). a .parent) ∙ counted-nodes T n e
 
     by-size : (a b c d : Bool) → b ≡ false →
         (cond a (cond b (refused TREE (treeBad (I .parents) (I .tags)))
         (cond c (refused LIST (listsBad (nodes I) (I .ends) (I .occurrences)))
         (cond d (refused COUNT (countsBad (I .parents) (I .ends) (I .occurrences) (I .counts))) (totalled accepted 0)))) (refused SIZE 0)) .refusal ≡ TREE → ⊥
-    by-size true true c d q z = absurd-bool q
-      where
-        absurd-bool : true ≡ false → ⊥
-        absurd-bool q = false≢true (sym q)
+    by-size true true c d q z = false≢true (sym q)
     by-size true false true d q z = omega (arith, z)
     by-size true false false true q z = omega (arith, z)
     by-size true false false false q z = omega (arith, z)

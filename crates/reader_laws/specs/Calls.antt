@@ -1,21 +1,20 @@
 -- What a call that reads a text promises, by the grammar alone (`profile`, specs/Grammar, Markup, Tree and Limits).
 --   Taken T l n k   == T is a text of the profile that keeps the limits, its n nodes fit what is lent, l, and k holds the rows of its tree: of the syntax tree
 --                      of each document that has this text
---   Broken T i      == no text of the profile continues at the byte i, the first such; and no node over a limit is met before it
---   Overrun T v     == v is the first node over a limit; nothing before it, and not the byte at which it is met, breaks the markup
--- Letters: T text, l k what is lent, before and after; n nodes, i a place, v a node. Assumes nothing.
+--   Cramped T l n   == the same of T, but its n nodes do not fit what is lent
+-- What MARKUP and TREE say is in `judge`, specs/Meaning. Letters: T text, l k what is lent, before and after; n nodes. Assumes nothing.
 use Prim.Native.Nat.{ℕ, _*_, _≤_}
 use mathlib.Core.Path.{_≡_}
 use mathlib.Core.List.{List}
-use mathlib.Core.Bool.{true}
+use mathlib.Core.Bool.{true, false}
 use mathlib.Core.Option.{none}
 use lib.ListN.{length}
 use Rattle.seq.specs.Memory.{zeroed, over}
 use Rattle.profile.specs.Grammar.{Document, text, IsText}
 use Rattle.profile.specs.Tree.{tree}
 use Rattle.profile.specs.Limits.{keysOf, firstOver}
-use Rattle.profile.specs.Limits as limits
 use Rattle.judge.specs.Judge.{longest, maxLevel, maxNodes}
+use Rattle.judge.specs.Meaning.{Kept}
 use Rattle.reader.specs.Read.{Lent, fitsIn, parentsOf, tagsIn, firstsOf, lastsOf}
 
 -- What one document with this text says of the rows.
@@ -34,10 +33,6 @@ pub record Taken (T : List ℕ) (l : Lent) (n : ℕ) (k : Lent) : Type 0 where
   pub whole : IsText T
   pub rows : (d : Document) → text d ≡ T → Rows d l k n
 
-pub record Broken (T : List ℕ) (i : ℕ) : Type 0 where
-  pub short : length T ≤ longest
-  pub breaks : limits.Broken maxLevel maxNodes T i
-
-pub record Overrun (T : List ℕ) (v : ℕ) : Type 0 where
-  pub short : length T ≤ longest
-  pub over : limits.Overrun maxLevel maxNodes T v
+pub record Cramped (T : List ℕ) (l : Lent) (n : ℕ) : Type 0 where
+  pub kept : Kept T n
+  pub short : fitsIn n l ≡ false

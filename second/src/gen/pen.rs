@@ -80,25 +80,23 @@ impl<'a> Pen<'a> {
         }
     }
 
-    pub fn start(&mut self, name: &[u8]) {
-        self.word(b"<");
+    fn tag(&mut self, open: &[u8], name: &[u8], close: &[u8]) {
+        self.word(open);
         self.word(name);
         self.gap();
-        self.word(b">");
+        self.word(close);
+    }
+
+    pub fn start(&mut self, name: &[u8]) {
+        self.tag(b"<", name, b">");
     }
 
     pub fn end(&mut self, name: &[u8]) {
-        self.word(b"</");
-        self.word(name);
-        self.gap();
-        self.word(b">");
+        self.tag(b"</", name, b">");
     }
 
     pub fn empty(&mut self, name: &[u8]) {
-        self.word(b"<");
-        self.word(name);
-        self.gap();
-        self.word(b"/>");
+        self.tag(b"<", name, b"/>");
     }
 
     /// Either form of an element without content.

@@ -23,3 +23,21 @@ pub struct Read {
     pub lasts: Vec<u32>,
     pub work: Vec<u32>,
 }
+
+impl Reading {
+    /// A refusal, with every buffer as lent.
+    pub fn refused(&self, refusal: u32, place: u32, total: u32) -> Read {
+        Read {
+            reply: Reply {
+                refusal,
+                place,
+                total,
+            },
+            parents: self.parents.clone(),
+            tags: self.tags.clone(),
+            firsts: self.firsts.clone(),
+            lasts: self.lasts.clone(),
+            work: self.work.clone(),
+        }
+    }
+}

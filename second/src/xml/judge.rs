@@ -8,7 +8,7 @@
 use super::call::{Read, Reading};
 use super::node::{Node, Outcome};
 use super::read::read;
-use crate::call::{Reply, ACCEPTED, MARKUP, ROOM, SIZE, TREE};
+use crate::call::{ACCEPTED, MARKUP, ROOM, SIZE, TREE};
 use std::collections::BTreeMap;
 
 /// The longest text.
@@ -35,36 +35,16 @@ fn column(nodes: &[Node], of: impl Fn(&Node) -> usize) -> Vec<u32> {
 }
 
 pub fn judge(call: &Reading) -> Read {
-    let mut after = Read {
-        reply: Reply {
-            refusal: SIZE,
-            place: 0,
-            total: 0,
-        },
-        parents: call.parents.clone(),
-        tags: call.tags.clone(),
-        firsts: call.firsts.clone(),
-        lasts: call.lasts.clone(),
-        work: call.work.clone(),
-    };
     if call.text.len() > BYTES {
-        return after;
+        return call.refused(SIZE, 0, 0);
     }
     let nodes = match read(&call.text) {
-        Outcome::Markup(place) => {
-            after.reply.refusal = MARKUP;
-            after.reply.place = place as u32;
-            return after;
-        }
-        Outcome::Beyond(number) => {
-            after.reply.refusal = TREE;
-            after.reply.place = number as u32;
-            return after;
-        }
+        Outcome::Markup(place) => return call.refused(MARKUP, place as u32, 0),
+        Outcome::Beyond(number) => return call.refused(TREE, number as u32, 0),
         Outcome::Whole(nodes) => nodes,
     };
     let n = nodes.len();
-    after.reply.total = n as u32;
+    let mut after = call.refused(ROOM, 0, n as u32);
     let columns = [
         (&mut after.parents, column(&nodes, |node| node.parent)),
         (&mut after.tags, tags(&call.text, &nodes)),
@@ -73,7 +53,6 @@ pub fn judge(call: &Reading) -> Read {
         (&mut after.work, vec![0; 3 * n]),
     ];
     if columns.iter().any(|(lent, column)| lent.len() < column.len()) {
-        after.reply.refusal = ROOM;
         return after;
     }
     after.reply.refusal = ACCEPTED;
