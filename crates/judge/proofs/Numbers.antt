@@ -8,14 +8,13 @@ use lib.Dec.{eqb, ltb, leb}
 use native.Mathlib.Omega.{arith}
 use lib.ListN.{length, getD, take, drop, length-drop}
 use borrow.Author.Tests.{eq-eqb, ne-eqb, lt-ltb, le-ltb, le-leb, lt-leb}
-use Rattle.seq.proofs.Laws.Bools.{and-false-right}
+use Rattle.seq.proofs.Laws.Bools.{and-false-right, cond-true, cond-false}
 use Rattle.profile.specs.Spans.{common}
 use Rattle.profile.specs.Pieces.{START}
 use Rattle.profile.proofs.Laws.Spans.{common-text}
 use Rattle.markup.specs.declared.Piece.{Piece}
 use Rattle.judge.specs.Inner.{brokenAt, overAt, goesOn, isFull, isClosed, passed, spaceTurn, dataTurn, tagTurn, matched, closeTurn, Holds}
 use Rattle.judge.specs.declared.turns.State.{State}
-use Rattle.judge.proofs.Turning.{when, unless}
 
 -- ---- tests
 pub full-deep : (d m : ℕ) → 64 ≤ d → true ≡ isFull d m
@@ -38,44 +37,44 @@ closed-root d r e = rw (eq-eqb d 0 e)
 module _ (p : Piece) (s : State) where
   pub passed-broken : p .whole ≡ false → brokenAt (p .end) ≡ passed p s
   unfolding passed
-  passed-broken w = sym (unless (p .whole) w _ _)
+  passed-broken w = sym (cond-false (p .whole) w _ _)
 
   pub passed-on : p .whole ≡ true → goesOn (s .depth) (s .met) (s .solid) (s .rooted) ≡ passed p s
   unfolding passed
-  passed-on w = sym (when (p .whole) w _ _)
+  passed-on w = sym (cond-true (p .whole) w _ _)
 
   pub space-broken : p .whole ≡ false → brokenAt (p .middle) ≡ spaceTurn p s
   unfolding spaceTurn
-  space-broken w = sym (unless (p .whole && eqb (p .middle) (p .end)) (ap (λ b. b && eqb (p .middle) (p .end)) w) _ _)
+  space-broken w = sym (cond-false (p .whole && eqb (p .middle) (p .end)) (ap (λ b. b && eqb (p .middle) (p .end)) w) _ _)
 
   pub space-solid : (p .middle ≡ p .end → ⊥) → brokenAt (p .middle) ≡ spaceTurn p s
   unfolding spaceTurn
   space-solid n =
-      sym (unless (p .whole && eqb (p .middle) (p .end)) (and-false-right (p .whole) (eqb (p .middle) (p .end)) (ne-eqb (p .middle) (p .end) n)) _ _)
+      sym (cond-false (p .whole && eqb (p .middle) (p .end)) (and-false-right (p .whole) (eqb (p .middle) (p .end)) (ne-eqb (p .middle) (p .end) n)) _ _)
 
   pub space-on : p .whole ≡ true → p .middle ≡ p .end → goesOn 0 (s .met) (s .solid) (s .rooted) ≡ spaceTurn p s
   unfolding spaceTurn
-  space-on w e = sym (when (p .whole && eqb (p .middle) (p .end)) (ap₂ (λ a b. a && b) w (eq-eqb (p .middle) (p .end) e)) _ _)
+  space-on w e = sym (cond-true (p .whole && eqb (p .middle) (p .end)) (ap₂ (λ a b. a && b) w (eq-eqb (p .middle) (p .end) e)) _ _)
 
   -- ---- data
   pub data-outside : s .depth ≡ 0 → spaceTurn p s ≡ dataTurn p s
   unfolding dataTurn
-  data-outside e = sym (when (eqb (s .depth) 0) (eq-eqb (s .depth) 0 e) _ _)
+  data-outside e = sym (cond-true (eqb (s .depth) 0) (eq-eqb (s .depth) 0 e) _ _)
 
   module _ (n : s .depth ≡ 0 → ⊥) where
     pub data-white : p .end ≤ p .middle → passed p s ≡ dataTurn p s
     unfolding dataTurn
     data-white l =
         sym
-        (unless (eqb (s .depth) 0) (ne-eqb (s .depth) 0 n) _ _ ∙
-        unless (ltb (p .middle) (p .end) && not (s .solid)) (ap (λ b. b && not (s .solid)) (le-ltb (p .middle) (p .end) l)) _ _)
+        (cond-false (eqb (s .depth) 0) (ne-eqb (s .depth) 0 n) _ _ ∙
+        cond-false (ltb (p .middle) (p .end) && not (s .solid)) (ap (λ b. b && not (s .solid)) (le-ltb (p .middle) (p .end) l)) _ _)
 
     pub data-solid : s .solid ≡ true → passed p s ≡ dataTurn p s
     unfolding dataTurn
     data-solid h =
         sym
-        (unless (eqb (s .depth) 0) (ne-eqb (s .depth) 0 n) _ _ ∙
-        unless (ltb (p .middle) (p .end) && not (s .solid)) (and-false-right (ltb (p .middle) (p .end)) (not (s .solid)) (ap not h)) _ _)
+        (cond-false (eqb (s .depth) 0) (ne-eqb (s .depth) 0 n) _ _ ∙
+        cond-false (ltb (p .middle) (p .end) && not (s .solid)) (and-false-right (ltb (p .middle) (p .end)) (not (s .solid)) (ap not h)) _ _)
 
     module _ (l : p .middle < p .end) (h : s .solid ≡ false) where
       -- Data that makes a node.
@@ -83,41 +82,41 @@ module _ (p : Piece) (s : State) where
       unfolding dataTurn
       data-new =
           sym
-          (unless (eqb (s .depth) 0) (ne-eqb (s .depth) 0 n) _ _ ∙
-          when (ltb (p .middle) (p .end) && not (s .solid)) (ap₂ (λ a b. a && b) (lt-ltb (p .middle) (p .end) l) (ap not h)) _ _)
+          (cond-false (eqb (s .depth) 0) (ne-eqb (s .depth) 0 n) _ _ ∙
+          cond-true (ltb (p .middle) (p .end) && not (s .solid)) (ap₂ (λ a b. a && b) (lt-ltb (p .middle) (p .end) l) (ap not h)) _ _)
 
       pub data-full : isFull (s .depth) (s .met) ≡ true → overAt (s .met) ≡ dataTurn p s
-      data-full f = sym (when (isFull (s .depth) (s .met)) f _ _) ∙ data-new
+      data-full f = sym (cond-true (isFull (s .depth) (s .met)) f _ _) ∙ data-new
 
       pub data-broken : isFull (s .depth) (s .met) ≡ false → p .whole ≡ false → brokenAt (p .end) ≡ dataTurn p s
-      data-broken f w = sym (unless (isFull (s .depth) (s .met)) f _ _ ∙ unless (p .whole) w _ _) ∙ data-new
+      data-broken f w = sym (cond-false (isFull (s .depth) (s .met)) f _ _ ∙ cond-false (p .whole) w _ _) ∙ data-new
 
       pub data-node : isFull (s .depth) (s .met) ≡ false → p .whole ≡ true → (i : ℕ) → i ≡ suc (s .met) → goesOn (s .depth) i true (s .rooted) ≡ dataTurn p s
       data-node f w i e =
-          ap (λ i. goesOn (s .depth) i true (s .rooted)) e ∙ sym (unless (isFull (s .depth) (s .met)) f _ _ ∙ when (p .whole) w _ _) ∙ data-new
+          ap (λ i. goesOn (s .depth) i true (s .rooted)) e ∙ sym (cond-false (isFull (s .depth) (s .met)) f _ _ ∙ cond-true (p .whole) w _ _) ∙ data-new
 
 -- ---- tags
 module _ (at : ℕ) (p : Piece) (s : State) where
   pub tag-closed : isClosed (s .depth) (s .rooted) ≡ true → brokenAt (at + 1) ≡ tagTurn at p s
   unfolding tagTurn
-  tag-closed c = sym (when (isClosed (s .depth) (s .rooted)) c _ _)
+  tag-closed c = sym (cond-true (isClosed (s .depth) (s .rooted)) c _ _)
 
   module _ (c : isClosed (s .depth) (s .rooted) ≡ false) where
     pub tag-broken : p .whole ≡ false → brokenAt (p .end) ≡ tagTurn at p s
     unfolding tagTurn
-    tag-broken w = sym (unless (isClosed (s .depth) (s .rooted)) c _ _ ∙ unless (p .whole) w _ _)
+    tag-broken w = sym (cond-false (isClosed (s .depth) (s .rooted)) c _ _ ∙ cond-false (p .whole) w _ _)
 
     module _ (w : p .whole ≡ true) where
       pub tag-full : isFull (s .depth) (s .met) ≡ true → overAt (s .met) ≡ tagTurn at p s
       unfolding tagTurn
-      tag-full f = sym (unless (isClosed (s .depth) (s .rooted)) c _ _ ∙ when (p .whole) w _ _ ∙ when (isFull (s .depth) (s .met)) f _ _)
+      tag-full f = sym (cond-false (isClosed (s .depth) (s .rooted)) c _ _ ∙ cond-true (p .whole) w _ _ ∙ cond-true (isFull (s .depth) (s .met)) f _ _)
 
       tag-node : isFull (s .depth) (s .met) ≡ false → (b : Bool) → eqb (p .kind) START ≡ b →
           goesOn (cond b (suc (s .depth)) (s .depth)) (suc (s .met)) false true ≡ tagTurn at p s
       unfolding tagTurn
       tag-node f b e =
           sym
-          (unless (isClosed (s .depth) (s .rooted)) c _ _ ∙ when (p .whole) w _ _ ∙ unless (isFull (s .depth) (s .met)) f _ _ ∙
+          (cond-false (isClosed (s .depth) (s .rooted)) c _ _ ∙ cond-true (p .whole) w _ _ ∙ cond-false (isFull (s .depth) (s .met)) f _ _ ∙
           ap (λ b. goesOn (cond b (suc (s .depth)) (s .depth)) (suc (s .met)) false true) e)
 
       pub tag-opens : isFull (s .depth) (s .met) ≡ false → p .kind ≡ START → (d m : ℕ) → d ≡ suc (s .depth) → m ≡ suc (s .met) → goesOn d m false true ≡ tagTurn at p s
@@ -136,7 +135,7 @@ module _ (T : List ℕ) (at : ℕ) (p : Piece) (s : State) (S Z : List ℕ) wher
 
   pub close-outside : s .depth ≡ 0 → brokenAt (at + 1) ≡ closeTurn T at p s S Z
   unfolding closeTurn
-  close-outside e = sym (when (eqb (s .depth) 0) (eq-eqb (s .depth) 0 e) _ _)
+  close-outside e = sym (cond-true (eqb (s .depth) 0) (eq-eqb (s .depth) 0 e) _ _)
 
   abbrev start : ℕ
   start = getD S (s .depth - 1) 0
@@ -155,7 +154,7 @@ module _ (T : List ℕ) (at : ℕ) (p : Piece) (s : State) (S Z : List ℕ) wher
     -- The name is another: the first wrong byte is behind those that stand.
     differs : named ≡ false → brokenAt (at + 2 + r) ≡ closeTurn T at p s S Z
     unfolding closeTurn named
-    differs f = ap (λ r. brokenAt (at + 2 + r)) same-is ∙ sym (unless (eqb (s .depth) 0) (ne-eqb (s .depth) 0 n) _ _ ∙ unless named f _ _)
+    differs f = ap (λ r. brokenAt (at + 2 + r)) same-is ∙ sym (cond-false (eqb (s .depth) 0) (ne-eqb (s .depth) 0 n) _ _ ∙ cond-false named f _ _)
 
     pub close-differs : (r ≡ size → ⊥) → brokenAt (at + 2 + r) ≡ closeTurn T at p s S Z
     unfolding named
@@ -170,14 +169,14 @@ module _ (T : List ℕ) (at : ℕ) (p : Piece) (s : State) (S Z : List ℕ) wher
       unfolding closeTurn
       close-named =
           sym
-          (unless (eqb (s .depth) 0) (ne-eqb (s .depth) 0 n) _ _ ∙
-          when (eqb same size && eqb (p .middle) (at + 2 + size)) (ap₂ (λ a b. a && b) (eq-eqb same size (sym same-is ∙ a)) (eq-eqb (p .middle) (at + 2 + size) b)) _ _)
+          (cond-false (eqb (s .depth) 0) (ne-eqb (s .depth) 0 n) _ _ ∙
+          cond-true (eqb same size && eqb (p .middle) (at + 2 + size)) (ap₂ (λ a b. a && b) (eq-eqb same size (sym same-is ∙ a)) (eq-eqb (p .middle) (at + 2 + size) b)) _ _)
 
       pub close-broken : p .whole ≡ false → brokenAt (p .end) ≡ closeTurn T at p s S Z
-      close-broken w = sym (unless (p .whole) w _ _) ∙ close-named
+      close-broken w = sym (cond-false (p .whole) w _ _) ∙ close-named
 
       pub close-on : p .whole ≡ true → goesOn (s .depth - 1) (s .met) false (s .rooted) ≡ closeTurn T at p s S Z
-      close-on w = sym (when (p .whole) w _ _) ∙ close-named
+      close-on w = sym (cond-true (p .whole) w _ _) ∙ close-named
 
 -- ---- bounds
 pub name-within : (T : List ℕ) (s : State) (S Z : List ℕ) → Holds T s S Z → (s .depth ≡ 0 → ⊥) → getD S (s .depth - 1) 0 + getD Z (s .depth - 1) 0 ≤ length T

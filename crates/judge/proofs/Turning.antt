@@ -11,7 +11,7 @@ use lib.Dec.{eqb, ltb, leb}
 use lib.ListN.{length, getD, set, take, drop, length-set, length-take, length-drop}
 use lib.Seq.{drop-drop, getD-set-same, getD-set-other}
 use borrow.Author.Tests.{eqb-true, eqb-false, eq-eqb, ne-eqb, ltb-true, ltb-false, lt-ltb, le-ltb, leb-false, le-leb, lt-leb}
-use Rattle.seq.proofs.Laws.Bools.{bool-cases, and-left, and-right}
+use Rattle.seq.proofs.Laws.Bools.{bool-cases, and-left, and-right, cond-true, cond-false}
 use Rattle.profile.specs.Spans.{common}
 use Rattle.profile.specs.Machine.{Place, before, after, inside, past}
 use Rattle.profile.specs.Check.{Tally, whole, broken, over, full}
@@ -53,14 +53,6 @@ unfolding isFull
 full-is m d b = ap (λ a. a || leb 65536 m) (ltb-leb 64 d)
 
 -- ---- the two ways a turn is told
-pub when : (b : Bool) → b ≡ true → (x y : Turn) → cond b x y ≡ x
-when true e x y = refl
-when false e x y = absurd (false≢true e)
-
-pub unless : (b : Bool) → b ≡ false → (x y : Turn) → cond b x y ≡ y
-unless true e x y = absurd (false≢true (sym e))
-unless false e x y = refl
-
 module _ (T S Z : List ℕ) where
   told-if : (b : Bool) (x y : turns.Turn) (u v : Turn) → (b ≡ true → Told x T u S Z) → (b ≡ false → Told y T v S Z) → Told (cond b x y) T (cond b u v) S Z
   told-if true x y u v f g = f refl
@@ -249,10 +241,10 @@ module _ (at : ℕ) (T : List ℕ) (s : State) (S Z : List ℕ) (h : Holds T s S
       by-depth : (d : ℕ) → s .depth ≡ d → Told (turnData maxLevel maxNodes (placeOf T S Z (s .rooted) (s .depth)) (tallyIn s) at q) T (dataTurn (pieceFrom at q) s) S Z
       by-depth zero e =
           told-move T S Z _ _ _ _ (ap (λ d. turnData maxLevel maxNodes (placeOf T S Z (s .rooted) d) (tallyIn s) at q) e ∙ space-is (tallyIn s) (s .rooted) at q T S Z)
-          (when (eqb (s .depth) 0) (eq-eqb (s .depth) 0 e) _ _) (space-told (placeOf T S Z (s .rooted) 0) refl e)
+          (cond-true (eqb (s .depth) 0) (eq-eqb (s .depth) 0 e) _ _) (space-told (placeOf T S Z (s .rooted) 0) refl e)
       by-depth (suc d) e =
           told-move T S Z _ _ _ _ (ap (λ P. turnData maxLevel maxNodes P (tallyIn s) at q) (place-in e))
-          (unless (eqb (s .depth) 0) (ne-eqb (s .depth) 0 λ z. omega (arith, e, z)) _ _) (run-told (nameIn T S Z d) (openPlace T S Z d) (place-in e))
+          (cond-false (eqb (s .depth) 0) (ne-eqb (s .depth) 0 λ z. omega (arith, e, z)) _ _) (run-told (nameIn T S Z d) (openPlace T S Z d) (place-in e))
         where
           place-in : s .depth ≡ suc d → placeOf T S Z (s .rooted) (s .depth) ≡ inside (nameIn T S Z d) (openPlace T S Z d)
           place-in e = ap (placeOf T S Z (s .rooted)) e ∙ place-suc T S Z (s .rooted) d
@@ -355,11 +347,11 @@ module _ (at : ℕ) (T : List ℕ) (s : State) (S Z : List ℕ) (h : Holds T s S
       by-depth zero e =
           told-move T S Z _ _ _ _
           (ap (λ d. turnClose maxLevel maxNodes (placeOf T S Z (s .rooted) d) (tallyIn s) at (drop at T) q) e ∙ close-outside (tallyIn s) (s .rooted) at (drop at T) q T S Z)
-          (when (eqb (s .depth) 0) (eq-eqb (s .depth) 0 e) _ _) (told-broken T S Z (at + 1) (at + 1) refl)
+          (cond-true (eqb (s .depth) 0) (eq-eqb (s .depth) 0 e) _ _) (told-broken T S Z (at + 1) (at + 1) refl)
       by-depth (suc d) e =
           told-move T S Z _ _ _ _
           (ap (λ P. turnClose maxLevel maxNodes P (tallyIn s) at (drop at T) q) (ap (placeOf T S Z (s .rooted)) e ∙ place-suc T S Z (s .rooted) d))
-          (unless (eqb (s .depth) 0) (ne-eqb (s .depth) 0 λ z. omega (arith, e, z)) _ _ ∙ ap (λ i. closing i) top) (close-inside d e)
+          (cond-false (eqb (s .depth) 0) (ne-eqb (s .depth) 0 λ z. omega (arith, e, z)) _ _ ∙ ap (λ i. closing i) top) (close-inside d e)
         where
           closing : ℕ → Turn
           closing i =
@@ -423,14 +415,14 @@ module _ (at : ℕ) (T : List ℕ) (s : State) (S Z : List ℕ) (h : Holds T s S
       by-depth : (d : ℕ) (r : Bool) → s .depth ≡ d → s .rooted ≡ r → goal
       by-depth zero true e g =
           told-move T S′ Z′ _ _ _ _ (placed-at zero true e g ∙ tag-after (tallyIn s) at (drop at T) q T S Z)
-          (when (eqb (s .depth) 0 && s .rooted) (ap₂ (λ a b. a && b) (eq-eqb (s .depth) 0 e) g) _ _) (told-broken T S′ Z′ (at + 1) (at + 1) refl)
+          (cond-true (eqb (s .depth) 0 && s .rooted) (ap₂ (λ a b. a && b) (eq-eqb (s .depth) 0 e) g) _ _) (told-broken T S′ Z′ (at + 1) (at + 1) refl)
       by-depth zero false e g =
           told-move T S′ Z′ _ _ _ _ (placed-at zero false e g ∙ tag-before (tallyIn s) at (drop at T) q T S Z)
-          (unless (eqb (s .depth) 0 && s .rooted) (ap₂ (λ a b. a && b) (eq-eqb (s .depth) 0 e) g) _ _)
+          (cond-false (eqb (s .depth) 0 && s .rooted) (ap₂ (λ a b. a && b) (eq-eqb (s .depth) 0 e) g) _ _)
           (element-tests before S′ Z′ (f before (sym (ap (openPlace T S Z) e ∙ open-zero T S Z))))
       by-depth (suc d) r e g =
           told-move T S′ Z′ _ _ _ _ (placed-at (suc d) r e g ∙ tag-inside (tallyIn s) at (drop at T) q T S Z r d)
-          (unless (eqb (s .depth) 0 && s .rooted) (ap (λ b. b && s .rooted) (ne-eqb (s .depth) 0 λ z. omega (arith, e, z))) _ _)
+          (cond-false (eqb (s .depth) 0 && s .rooted) (ap (λ b. b && s .rooted) (ne-eqb (s .depth) 0 λ z. omega (arith, e, z))) _ _)
           (element-tests (openPlace T S Z (suc d)) S′ Z′ (f (openPlace T S Z (suc d)) (sym (ap (openPlace T S Z) e))))
 
   pub empty-told : q .kind ≡ EMPTY → Told (turnTag maxLevel maxNodes (placeOf T S Z (s .rooted) (s .depth)) (tallyIn s) at (drop at T) q) T (tagTurn at (pieceFrom at q) s) S Z

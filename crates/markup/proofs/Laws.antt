@@ -12,11 +12,12 @@ use mathlib.Core.Bool.{true}
 use native.Mathlib.Omega.{arith}
 use lib.ListN.{length, getD, drop, length-drop}
 use Rattle.profile.specs.Pieces.{END, pieceOf}
+use Rattle.profile.proofs.PieceLaws.{piece-le, middle-le}
 use Rattle.markup.specs.declared.Piece.{Piece}
 use Rattle.markup.specs.Pieces.{pieceAt}
 use Rattle.markup.proofs.Reading.{row-at}
 use Rattle.markup.proofs.Pieces.{piece-end}
-use Rattle.markup.proofs.Sizes.{size-within, size-middle, size-some, kind-some, kind-most}
+use Rattle.markup.proofs.Sizes.{size-some, kind-some, kind-most}
 
 pub piece-at-unique : (t : List ℕ) (o : ℕ) (r r′ : Piece) → r ≡ pieceAt t o → r′ ≡ pieceAt t o → r ≡ r′
 piece-at-unique t o r r′ a b = a ∙ sym b
@@ -31,11 +32,11 @@ module _ (t : List ℕ) (o : ℕ) where
 
   pub piece-middle : pieceAt t o .middle ≤ pieceAt t o .end
   unfolding pieceAt
-  piece-middle = omega (arith, size-middle (drop o t))
+  piece-middle = omega (arith, middle-le (drop o t))
 
   pub piece-within : o ≤ length t → pieceAt t o .end ≤ length t
   unfolding pieceAt
-  piece-within l = omega (arith, size-within (drop o t), length-drop o t)
+  piece-within l = omega (arith, piece-le (drop o t), length-drop o t)
 
   pub piece-on : o < length t → pieceAt t o .whole ≡ true → o < pieceAt t o .end
   unfolding pieceAt

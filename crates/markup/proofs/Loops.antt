@@ -19,7 +19,7 @@ use Rattle.profile.specs.Pieces.{stop, after, referenceStop, dataStop, closeSto
 use Rattle.markup.specs.declared.Reached.{Reached}
 use Rattle.markup.specs.Inner.{reached, reachedFrom}
 use Rattle.markup.proofs.Classes.{rule, white-plain, skip-stops}
-use Rattle.markup.proofs.Reading.{Reading, reading-start, reading-step, reading-rest, reading-stop, row-at, row-end}
+use Rattle.markup.proofs.Reading.{Reading, reading-start, reading-step, reading-rest, reading-stop, row-at, row-is, row-end}
 use Rattle.markup.proofs.Data.{data-run, data-end, data-less, data-other, data-greater, data-whole, data-broken, many, many-two, data-bracket, data-forgets, data-refuses}
 use Rattle.markup.proofs.Comments.{body-run, body-end, body-other, body-last, body-dash, body-close}
 
@@ -39,11 +39,8 @@ pub data-white : (t : List ℕ) (o j : ℕ) → j ≡ o + span white (drop o t) 
 data-white t o j p = reading-step _ t o o (reading-start _ t o) (span white (drop o t)) j p (data-run white white-plain (drop o t))
 
 module _ (t : List ℕ) (o i : ℕ) (r : Data t o i) (l : i < length t) where
-  row : (x : ℕ) → getD t i 0 ≡ x → drop i t ≡ x ∷ drop (i + 1) t
-  row x e = row-at t i l ∙ ap (λ y. y ∷ drop (i + 1) t) e
-
   pub data-at-less : getD t i 0 ≡ '<' → reached i true ≡ reachedFrom o (dataStop b0 0 (drop o t))
-  data-at-less e = reading-stop _ t o i r true (ap (dataStop b0 0) (row '<' e) ∙ data-less (drop (i + 1) t))
+  data-at-less e = reading-stop _ t o i r true (ap (dataStop b0 0) (row-is t i l '<' e) ∙ data-less (drop (i + 1) t))
 
   pub data-at-other : within PLAINS (getD t i 0) ≡ false → (getD t i 0 ≡ '<' → ⊥) → (getD t i 0 ≡ '&' → ⊥) → (getD t i 0 ≡ '>' → ⊥) → (getD t i 0 ≡ ']' → ⊥) →
       reached i false ≡ reachedFrom o (dataStop b0 0 (drop o t))
@@ -54,19 +51,19 @@ module _ (t : List ℕ) (o i : ℕ) (r : Data t o i) (l : i < length t) where
 
   pub data-over-greater : getD t i 0 ≡ '>' → Data t o (i + 1)
   data-over-greater e =
-      reading-step _ t o i r 1 (i + 1) refl (ap (dataStop b0 0) (row '>' e) ∙ data-greater (drop (i + 1) t) ∙ ap (λ u. after 1 (dataStop b0 0 (drop 1 u))) (sym (row '>' e)))
+      reading-step _ t o i r 1 (i + 1) refl (ap (dataStop b0 0) (row-is t i l '>' e) ∙ data-greater (drop (i + 1) t) ∙ ap (λ u. after 1 (dataStop b0 0 (drop 1 u))) (sym (row-is t i l '>' e)))
 
   -- a reference, of which s tells where it ends
   module _ (e : getD t i 0 ≡ '&') (s : Reached) (p : s ≡ reachedFrom (i + 1) (referenceStop (drop (i + 1) t))) where
     pub data-at-broken : s .whole ≡ false → s ≡ reachedFrom o (dataStop b0 0 (drop o t))
     data-at-broken w =
-        p ∙ reading-rest _ t o i r 1 (referenceStop (drop (i + 1) t)) (ap (dataStop b0 0) (row '&' e) ∙ data-broken (drop (i + 1) t) (ap (λ z. z .whole) (sym p) ∙ w))
+        p ∙ reading-rest _ t o i r 1 (referenceStop (drop (i + 1) t)) (ap (dataStop b0 0) (row-is t i l '&' e) ∙ data-broken (drop (i + 1) t) (ap (λ z. z .whole) (sym p) ∙ w))
 
     pub data-over-reference : s .whole ≡ true → Data t o (s .end)
     data-over-reference w =
         reading-step _ t o i r (suc n) (s .end) (ap (λ z. z .end) p ∙ add)
-        (ap (dataStop b0 0) (row '&' e) ∙ data-whole (drop (i + 1) t) (ap (λ z. z .whole) (sym p) ∙ w)
-        ∙ ap (λ u. after (suc n) (dataStop b0 0 (drop (suc n) u))) (sym (row '&' e)))
+        (ap (dataStop b0 0) (row-is t i l '&' e) ∙ data-whole (drop (i + 1) t) (ap (λ z. z .whole) (sym p) ∙ w)
+        ∙ ap (λ u. after (suc n) (dataStop b0 0 (drop (suc n) u))) (sym (row-is t i l '&' e)))
       where
         n : ℕ
         n = referenceStop (drop (i + 1) t) .size
@@ -94,7 +91,7 @@ module _ (t : List ℕ) (o i : ℕ) (r : Data t o i) (l : i < length t) (e : get
   passed : dataStop b0 0 (drop i t) ≡ after (suc more) (dataStop (many more b1) 0 (drop j t))
   unfolding more
   passed =
-      ap (dataStop b0 0) (row t o i r l ']' e) ∙ data-bracket (within BRACKETS) (λ x q. rule x .of-bracket ∙ q) (drop (i + 1) t)
+      ap (dataStop b0 0) (row-is t i l ']' e) ∙ data-bracket (within BRACKETS) (λ x q. rule x .of-bracket ∙ q) (drop (i + 1) t)
       ∙ ap (λ u. after (suc more) (dataStop (many more b1) 0 u)) (drop-drop more (i + 1) t ∙ ap (λ k. drop k t) (sym p))
 
   ended : j < length t → eqb (getD t j 0) ']' ≡ false

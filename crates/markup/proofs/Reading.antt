@@ -4,7 +4,7 @@
 --   run-over                                     a front of bytes each of which leads on
 --   Reading F t o i                              what F says of the text t from o on is what it says from i on, with the bytes between in front
 --   reading-start, -step, -rest, -stop
---   row-at, row-end                              what stands at a place of a text
+--   row-at, row-is, row-end                      what stands at a place of a text
 -- Letters: t u rows of bytes, F what is asked of one, f a test of a byte, o where the loop began, i where it is, n a size, s a stop.
 use Prim.Native.Nat.{ℕ, suc, _+_, _≤_, _<_}
 use mathlib.Core.Path.{_≡_, refl, sym, ap, _∙_}
@@ -82,6 +82,9 @@ module _ (F : List ℕ → Stop) (t : List ℕ) (o i : ℕ) (r : Reading F t o i
 -- ---- the row at a place
 pub row-at : (t : List ℕ) (i : ℕ) → i < length t → drop i t ≡ getD t i 0 ∷ drop (i + 1) t
 row-at t i l = rw (add-one i) (drop-cons t i 0 l)
+
+pub row-is : (t : List ℕ) (i : ℕ) → i < length t → (x : ℕ) → getD t i 0 ≡ x → drop i t ≡ x ∷ drop (i + 1) t
+row-is t i l x e = row-at t i l ∙ ap (λ y. y ∷ drop (i + 1) t) e
 
 pub row-end : (t : List ℕ) (i : ℕ) → length t ≤ i → drop i t ≡ []
 row-end t i l = drop-of-length-le t l

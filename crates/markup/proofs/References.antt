@@ -14,7 +14,7 @@ use Rattle.profile.specs.Spans.{common}
 use Rattle.profile.specs.Pieces.{meant, referenceStop}
 use Rattle.markup.specs.declared.Reached.{Reached}
 use Rattle.markup.specs.Inner.{reached, reachedFrom, wordStop}
-use Rattle.markup.proofs.Reading.{reached-stop, row-at, row-end}
+use Rattle.markup.proofs.Reading.{reached-stop, row-at, row-is, row-end}
 
 pub reference-is : (t : List ℕ) (i : ℕ) (w : List ℕ) → meant (drop i t) ≡ w → (s : Reached) → s ≡ reachedFrom i (wordStop w (drop i t)) →
     s ≡ reachedFrom i (referenceStop (drop i t))
@@ -26,24 +26,21 @@ reference-end t i l = sym (ap (λ u. reachedFrom i (referenceStop u)) (row-end t
 
 -- by the byte at hand
 module _ (t : List ℕ) (i : ℕ) (l : i < length t) where
-  row : (x : ℕ) → getD t i 0 ≡ x → drop i t ≡ x ∷ drop (i + 1) t
-  row x e = row-at t i l ∙ ap (λ y. y ∷ drop (i + 1) t) e
-
   pub meant-l : getD t i 0 ≡ 108 → meant (drop i t) ≡ 108 ∷ 116 ∷ semicolon ∷ []
   unfolding meant startsWith
-  meant-l e = ap meant (row 108 e)
+  meant-l e = ap meant (row-is t i l 108 e)
 
   pub meant-g : getD t i 0 ≡ 103 → meant (drop i t) ≡ 103 ∷ 116 ∷ semicolon ∷ []
   unfolding meant startsWith
-  meant-g e = ap meant (row 103 e)
+  meant-g e = ap meant (row-is t i l 103 e)
 
   pub meant-q : getD t i 0 ≡ 113 → meant (drop i t) ≡ 113 ∷ 117 ∷ 111 ∷ 116 ∷ semicolon ∷ []
   unfolding meant startsWith
-  meant-q e = ap meant (row 113 e)
+  meant-q e = ap meant (row-is t i l 113 e)
 
   pub meant-ap : getD t i 0 ≡ 97 → i + 1 < length t → getD t (i + 1) 0 ≡ 112 → meant (drop i t) ≡ 97 ∷ 112 ∷ 111 ∷ 115 ∷ semicolon ∷ []
   unfolding meant startsWith
-  meant-ap e b q = ap meant (row 97 e ∙ ap (λ u. 97 ∷ u) (row-at t (i + 1) b ∙ ap (λ y. y ∷ drop (i + 1 + 1) t) q))
+  meant-ap e b q = ap meant (row-is t i l 97 e ∙ ap (λ u. 97 ∷ u) (row-at t (i + 1) b ∙ ap (λ y. y ∷ drop (i + 1 + 1) t) q))
 
   pub meant-other : (getD t i 0 ≡ 108 → ⊥) → (getD t i 0 ≡ 103 → ⊥) → (getD t i 0 ≡ 113 → ⊥) → (getD t i 0 ≡ 97 → i + 1 < length t → getD t (i + 1) 0 ≡ 112 → ⊥) →
       meant (drop i t) ≡ 97 ∷ 109 ∷ 112 ∷ semicolon ∷ []

@@ -13,7 +13,7 @@ use native.Mathlib.Omega.{arith}
 use lib.Dec.{eqb, ltb}
 use lib.ListN.{length, drop, length-drop}
 use borrow.Author.Tests.{eqb-true, ne-eqb}
-use Rattle.seq.proofs.Laws.Bools.{bool-cases, and-left, and-right}
+use Rattle.seq.proofs.Laws.Bools.{bool-cases, and-left, and-right, cond-true, cond-false}
 use Rattle.profile.specs.Bytes.{'!', '&', '-', '/', '<', '>', char, white, nameStart, nameChar, isName}
 use Rattle.profile.specs.Spans.{span, common}
 use Rattle.profile.specs.Machine.{Place, before, after, inside, past, Brackets, b0, runByte, runNext}
@@ -27,7 +27,7 @@ use Rattle.profile.proofs.Turns.{close-kind, tag-kind, by-close, by-tag
 use Rattle.profile.proofs.TagTurns.{tagEnd-middle}
 use Rattle.profile.proofs.TagNotes.{placed, tag-named}
 use Rattle.profile.proofs.DataTurns.{later, stop-skips, white-stop}
-use Rattle.profile.proofs.Went.{bang-piece, slash-piece, letter-piece, other-piece, lone-piece, data-piece, data-moves, close-size, tag-size, tagEnd-size, past-lawful, placed-lawful, turn-when, turn-false, data-by}
+use Rattle.profile.proofs.Went.{bang-piece, slash-piece, letter-piece, other-piece, lone-piece, data-piece, data-moves, close-size, tag-size, tagEnd-size, past-lawful, placed-lawful, data-by}
 use Rattle.profile.proofs.Laws.Spans.{span-le, common-text}
 
 -- ---- by the head
@@ -318,16 +318,16 @@ close-two-of t = ⊎-elim (λ q. rw q (omega arith)) (λ q. rw q (omega arith)) 
 module _ (L N : ℕ) (p : Place) (c : Tally) (j : ℕ) (t : List ℕ) (q : Piece) where
   pub end-by : q .kind ≡ END → turnBy L N p c j t q ≡ turnEnd p c j
   unfolding turnBy
-  end-by e = turn-when (eqb (q .kind) END) (ap (λ i. eqb i END) e) _ _
+  end-by e = cond-true (eqb (q .kind) END) (ap (λ i. eqb i END) e) _ _
 
   -- A comment, or a `<` that begins no piece.
   pub other-by : (q .kind ≡ END → ⊥) → (q .kind ≡ DATA → ⊥) → (q .kind ≡ CLOSE → ⊥) → (q .kind ≡ EMPTY → ⊥) → (q .kind ≡ START → ⊥) →
       turnBy L N p c j t q ≡ cond (q .whole) (go p c) (halt (broken (j + q .size)))
   unfolding turnBy
   other-by a b e f g =
-      turn-false (eqb (q .kind) END) (ne-eqb (q .kind) END a) _ _ ∙ turn-false (eqb (q .kind) DATA) (ne-eqb (q .kind) DATA b) _ _ ∙
-      turn-false (eqb (q .kind) CLOSE) (ne-eqb (q .kind) CLOSE e) _ _ ∙
-      turn-false (eqb (q .kind) START || eqb (q .kind) EMPTY) (ap₂ (λ x y. x || y) (ne-eqb (q .kind) START g) (ne-eqb (q .kind) EMPTY f)) _ _
+      cond-false (eqb (q .kind) END) (ne-eqb (q .kind) END a) _ _ ∙ cond-false (eqb (q .kind) DATA) (ne-eqb (q .kind) DATA b) _ _ ∙
+      cond-false (eqb (q .kind) CLOSE) (ne-eqb (q .kind) CLOSE e) _ _ ∙
+      cond-false (eqb (q .kind) START || eqb (q .kind) EMPTY) (ap₂ (λ x y. x || y) (ne-eqb (q .kind) START g) (ne-eqb (q .kind) EMPTY f)) _ _
 
 pub close-two : (t : List ℕ) → pieceOf t .kind ≡ CLOSE → 2 ≤ pieceOf t .size
 close-two =

@@ -14,7 +14,7 @@ use native.Mathlib.Omega.{arith}
 use lib.Dec.{eqb, ltb}
 use lib.ListN.{length, drop, length-append}
 use borrow.Author.Tests.{eqb-true}
-use Rattle.seq.proofs.Laws.Bools.{bool-cases, and-left, and-right, and-both}
+use Rattle.seq.proofs.Laws.Bools.{bool-cases, and-left, and-right, and-both, cond-true, cond-false}
 use Rattle.profile.specs.Bytes.{'!', '&', '/', '<', '>', white, nameStart, isName}
 use Rattle.profile.specs.Spans.{span, common}
 use Rattle.profile.specs.Machine.{Place, before, after, inside, past, b0, State, between, runByte, step, accepting}
@@ -109,7 +109,7 @@ same-tally : (c d : Tally) → c .met ≡ d .met → c .depth ≡ d .depth → c
 same-tally c d a b e =
     ap (λ x. tally x (c .depth) (c .solid)) a ∙ ap (λ x. tally (d .met) x (c .solid)) b ∙ ap (λ x. tally (d .met) (d .depth) x) e
 
-endAt-length : (v l : ℕ) (ns : List Node) → length (endAt v l ns) ≡ length ns
+pub endAt-length : (v l : ℕ) (ns : List Node) → length (endAt v l ns) ≡ length ns
 unfolding endAt
 endAt-length v l [] = refl
 endAt-length zero l (a ∷ ns) = refl
@@ -204,22 +204,14 @@ unfolding matches isOpen
 inside-path n p [] h = absurd (false≢true h)
 inside-path n p (v ∷ q) h = refl
 
-if-true : (b : Bool) → b ≡ true → (x y : Memory) → cond b x y ≡ x
-if-true true e x y = refl
-if-true false e x y = absurd (false≢true e)
-
-if-false : (b : Bool) → b ≡ false → (x y : Memory) → cond b x y ≡ y
-if-false true e x y = absurd (false≢true (sym e))
-if-false false e x y = refl
-
 noted-outside : (j : ℕ) (t : List ℕ) (q : Piece) (m : Memory) → q .kind ≡ DATA → m .path ≡ [] → noted j t q m ≡ m
 unfolding noted
-noted-outside j t q m k e = if-true (eqb (q .kind) DATA) (ap (λ i. eqb i DATA) k) _ _ ∙ ap (notedData j q m) e
+noted-outside j t q m k e = cond-true (eqb (q .kind) DATA) (ap (λ i. eqb i DATA) k) _ _ ∙ ap (notedData j q m) e
 
 noted-inside : (j : ℕ) (t : List ℕ) (q : Piece) (m : Memory) → q .kind ≡ DATA → isOpen (m .path) ≡ true →
     noted j t q m ≡ holding (withRun (m .held) j (q .middle) (q .size)) m
 unfolding noted isOpen
-noted-inside j t q m k o = if-true (eqb (q .kind) DATA) (ap (λ i. eqb i DATA) k) _ _ ∙ opened-path (m .path) o
+noted-inside j t q m k o = cond-true (eqb (q .kind) DATA) (ap (λ i. eqb i DATA) k) _ _ ∙ opened-path (m .path) o
   where
     opened-path : (path : List ℕ) → isOpen path ≡ true → notedData j q m path ≡ holding (withRun (m .held) j (q .middle) (q .size)) m
     opened-path [] o = absurd (false≢true o)
@@ -247,7 +239,7 @@ past-matches n p (v ∷ q) h = past-path p q h
 noted-close : (j : ℕ) (t : List ℕ) (q : Piece) (m : Memory) → q .kind ≡ CLOSE → noted j t q m ≡ closed (j + q .size - 1) (reader.marked j m)
 unfolding noted
 noted-close j t q m k =
-    if-false (eqb (q .kind) DATA) (ap (λ i. eqb i DATA) k) _ _ ∙ if-true (eqb (q .kind) CLOSE) (ap (λ i. eqb i CLOSE) k) _ _
+    cond-false (eqb (q .kind) DATA) (ap (λ i. eqb i DATA) k) _ _ ∙ cond-true (eqb (q .kind) CLOSE) (ap (λ i. eqb i CLOSE) k) _ _
 
 noted-tag : (j : ℕ) (t : List ℕ) (q : Piece) (m : Memory) → q .kind ≡ START ⊎ q .kind ≡ EMPTY →
     noted j t q m ≡ added q (nameOf t q) (j + q .size - 1) (reader.marked j m)
@@ -255,12 +247,12 @@ unfolding noted
 noted-tag j t q m k =
     ⊎-elim
     (λ e.
-    if-false (eqb (q .kind) DATA) (ap (λ i. eqb i DATA) e) _ _ ∙ if-false (eqb (q .kind) CLOSE) (ap (λ i. eqb i CLOSE) e) _ _ ∙
-    if-true (eqb (q .kind) START) (ap (λ i. eqb i START) e) _ _ ∙ sym (if-true (eqb (q .kind) START) (ap (λ i. eqb i START) e) _ _))
+    cond-false (eqb (q .kind) DATA) (ap (λ i. eqb i DATA) e) _ _ ∙ cond-false (eqb (q .kind) CLOSE) (ap (λ i. eqb i CLOSE) e) _ _ ∙
+    cond-true (eqb (q .kind) START) (ap (λ i. eqb i START) e) _ _ ∙ sym (cond-true (eqb (q .kind) START) (ap (λ i. eqb i START) e) _ _))
     (λ e.
-    if-false (eqb (q .kind) DATA) (ap (λ i. eqb i DATA) e) _ _ ∙ if-false (eqb (q .kind) CLOSE) (ap (λ i. eqb i CLOSE) e) _ _ ∙
-    if-false (eqb (q .kind) START) (ap (λ i. eqb i START) e) _ _ ∙ if-true (eqb (q .kind) EMPTY) (ap (λ i. eqb i EMPTY) e) _ _ ∙
-    sym (if-false (eqb (q .kind) START) (ap (λ i. eqb i START) e) _ _))
+    cond-false (eqb (q .kind) DATA) (ap (λ i. eqb i DATA) e) _ _ ∙ cond-false (eqb (q .kind) CLOSE) (ap (λ i. eqb i CLOSE) e) _ _ ∙
+    cond-false (eqb (q .kind) START) (ap (λ i. eqb i START) e) _ _ ∙ cond-true (eqb (q .kind) EMPTY) (ap (λ i. eqb i EMPTY) e) _ _ ∙
+    sym (cond-false (eqb (q .kind) START) (ap (λ i. eqb i START) e) _ _))
     k
 
 -- A tag that opens an element or not.
@@ -362,14 +354,6 @@ tag-size t =
     omega (arith, tagEnd-size (1 + nameSize t) (1 + nameSize t + span white (drop (nameSize t) t)) (drop (span white (drop (nameSize t) t)) (drop (nameSize t) t)))
 
 -- ---- the turn of a piece
-pub turn-when : (b : Bool) → b ≡ true → (x y : Turn) → cond b x y ≡ x
-turn-when true e x y = refl
-turn-when false e x y = absurd (false≢true e)
-
-pub turn-false : (b : Bool) → b ≡ false → (x y : Turn) → cond b x y ≡ y
-turn-false true e x y = absurd (false≢true (sym e))
-turn-false false e x y = refl
-
 none-turned : (L N : ℕ) (p : Place) (c : Tally) (j : ℕ) (t : List ℕ) (k : ℕ) →
     follow (turnBy L N p c j t (piece NONE 1 (stop 1 false))) (λ p′ c′. check L N (j + 1) (between b0 p′) c′ (drop 1 t)) ≡ whole k → broken (j + 1) ≡ whole k
 unfolding turnBy
@@ -377,7 +361,7 @@ none-turned L N p c j t k f = f
 
 pub data-by : (L N : ℕ) (p : Place) (c : Tally) (j : ℕ) (t : List ℕ) (q : Piece) → q .kind ≡ DATA → turnBy L N p c j t q ≡ turnData L N p c j q
 unfolding turnBy
-data-by L N p c j t q e = turn-false (eqb (q .kind) END) (ap (λ i. eqb i END) e) _ _ ∙ turn-when (eqb (q .kind) DATA) (ap (λ i. eqb i DATA) e) _ _
+data-by L N p c j t q e = cond-false (eqb (q .kind) END) (ap (λ i. eqb i END) e) _ _ ∙ cond-true (eqb (q .kind) DATA) (ap (λ i. eqb i DATA) e) _ _
 
 data-turned : (L N : ℕ) (p : Place) (c : Tally) (j x : ℕ) (t : List ℕ) (k : ℕ) → eqb x '<' ≡ false →
     follow (turnBy L N p c j (x ∷ t) (pieceOf (x ∷ t)))

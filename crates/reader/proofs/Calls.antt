@@ -4,11 +4,12 @@
 use Prim.Native.Nat.{ℕ, zero, suc, _+_, _-_, _≤_, _<_}
 use mathlib.Core.Path.{_≡_, refl, sym, ap, ap₂, subst, _∙_}
 use mathlib.Core.List.{List}
-use mathlib.Core.Bool.{Bool, true, false, not, cond, false≢true}
+use mathlib.Core.Bool.{Bool, true, false, not, cond}
 use native.Mathlib.Omega.{arith}
 use lib.Dec.{eqb, ltb}
 use lib.ListN.{length, getD, set, length-set}
 use borrow.Author.Tests.{not-true, not-false, lt-ltb, le-ltb, eq-eqb, ne-eqb, eqb-true}
+use Rattle.seq.proofs.Laws.Bools.{cond-true, cond-false}
 use Rattle.profile.specs.Reader.{top}
 use Rattle.profile.specs.Pieces.{DATA, COMMENT, START, CLOSE}
 use Rattle.markup.specs.declared.Piece.{Piece}
@@ -121,14 +122,6 @@ module _ (at : ℕ) (p : Piece) (s : State) where
       ap₂ longer ef eb ∙
       sym (ap (λ b. cond b s (longer (cond (s .held) (s .first) at) (cond (ltb (p .middle) (p .end)) true (s .solid)))) (ne-eqb (s .depth) 0 e))
 
-store-if : (b : Bool) → b ≡ true → (x y : Store) → cond b x y ≡ x
-store-if true e x y = refl
-store-if false e x y = absurd (false≢true e)
-
-store-else : (b : Bool) → b ≡ false → (x y : Store) → cond b x y ≡ y
-store-else true e x y = absurd (false≢true (sym e))
-store-else false e x y = refl
-
 -- ---- tags
 module _ (S : Store) where
   pub room-flush : Room S → (v : ℕ) → v ≡ above S → FlushPre (S .state) v (S .rows)
@@ -165,7 +158,7 @@ module _ (S : Store) where
     tag-close at p k b e =
         ap (λ b. record { state = b; opens = S .opens; rows = endNode v (p .end - 1) R′ }) (e ∙ ap (blank (S .state .depth - 1)) (f .met)) ∙
         ap₂ (λ v R. record { state = blank (S .state .depth - 1) (flushedMet (S .state)); opens = S .opens; rows = endNode v (p .end - 1) R }) ev after-rows ∙
-        sym (store-if (eqb (p .kind) CLOSE) (eq-eqb (p .kind) CLOSE k) (closeStore p S) (nodeStore at p S))
+        sym (cond-true (eqb (p .kind) CLOSE) (eq-eqb (p .kind) CLOSE k) (closeStore p S) (nodeStore at p S))
 
     module _ (at : ℕ) (p : Piece) (R″ : Rows) (g : R″ ≡ putNode r v 1 at (p .end - 1) R′) where
       node-rows : R″ ≡ nodeStore at p S .rows
@@ -186,7 +179,7 @@ module _ (S : Store) where
       unfolding tagStore stored
       node-stored b e k =
           ap₂ (stored b) (f .met) node-rows ∙ ap (λ b. stored b (flushedMet (S .state)) (nodeStore at p S .rows)) (sym e) ∙
-          sym (store-else (eqb (p .kind) CLOSE) (ne-eqb (p .kind) CLOSE k) (closeStore p S) (nodeStore at p S))
+          sym (cond-false (eqb (p .kind) CLOSE) (ne-eqb (p .kind) CLOSE k) (closeStore p S) (nodeStore at p S))
 
       pub tag-start : (p .kind ≡ CLOSE → ⊥) → p .kind ≡ START → (b : State) → b ≡ blank (S .state .depth + 1) (r + 1) →
           _≡_ {A = Store} (record { state = b; opens = set (S .opens) (S .state .depth) r; rows = R″ }) (tagStore at p S)
@@ -205,20 +198,20 @@ module _ (S : Store) where
         _≡_ {A = Store} (record { state = b; opens = S .opens; rows = S .rows }) (turnStore at p S)
     unfolding turnStore
     turn-data k b e =
-        ap (λ b. record { state = b; opens = S .opens; rows = S .rows }) e ∙ sym (store-if (eqb (p .kind) DATA) (eq-eqb (p .kind) DATA k) _ _)
+        ap (λ b. record { state = b; opens = S .opens; rows = S .rows }) e ∙ sym (cond-true (eqb (p .kind) DATA) (eq-eqb (p .kind) DATA k) _ _)
 
     pub turn-comment : p .kind ≡ COMMENT → S ≡ turnStore at p S
     unfolding turnStore
     turn-comment k =
         sym
-        (store-else (eqb (p .kind) DATA) (ap (λ i. eqb i DATA) k) _ _ ∙ store-if (eqb (p .kind) COMMENT) (eq-eqb (p .kind) COMMENT k) S (tagStore at p S))
+        (cond-false (eqb (p .kind) DATA) (ap (λ i. eqb i DATA) k) _ _ ∙ cond-true (eqb (p .kind) COMMENT) (eq-eqb (p .kind) COMMENT k) S (tagStore at p S))
 
     pub turn-tag : (p .kind ≡ DATA → ⊥) → (p .kind ≡ COMMENT → ⊥) → tagStore at p S ≡ turnStore at p S
     unfolding turnStore
     turn-tag d c =
         sym
-        (store-else (eqb (p .kind) DATA) (ne-eqb (p .kind) DATA d) _ _ ∙
-        store-else (eqb (p .kind) COMMENT) (ne-eqb (p .kind) COMMENT c) S (tagStore at p S))
+        (cond-false (eqb (p .kind) DATA) (ne-eqb (p .kind) DATA d) _ _ ∙
+        cond-false (eqb (p .kind) COMMENT) (ne-eqb (p .kind) COMMENT c) S (tagStore at p S))
 
   -- Only data has a use for the middle of a piece.
   pub turn-middle : (at k : ℕ) (b : Bool) (m m′ e : ℕ) → (k ≡ DATA → m ≡ m′) →

@@ -16,7 +16,7 @@ use lib.ListN.{length, getD, set, length-append}
 use lib.Seq.{getD-set-same, getD-set-other}
 use borrow.Author.Tests.{ltb-true, lt-ltb}
 use borrow.Author.Count.{below-more}
-use Rattle.seq.proofs.Laws.Bools.{bool-ext}
+use Rattle.seq.proofs.Laws.Bools.{bool-ext, cond-true, cond-false}
 use Rattle.profile.specs.Spans.{nameAt}
 use Rattle.profile.specs.Tree.{Node, node, Held, nothing, held, dataNode}
 use Rattle.profile.specs.Reader.{Memory, top, popped, endAt, flushed, fromMark, opened, emptied, closed}
@@ -30,7 +30,8 @@ use Rattle.reader.specs.declared.build.State.{State}
 use Rattle.names.specs.Names.{nameOf}
 use Rattle.reader.specs.Inner.{Rows, putNode, endNode, Store, pathIn, blank, flushedMet, flushedRows, dataState, above, markOf, mark}
 use Rattle.reader.proofs.Calls.{solid-met, thin-met, solid-rows, thin-rows, data-outside, data-inside}
-use Rattle.reader.proofs.Rows.{map-snoc, map-endAt, endAt-length, Sized, written, written-put, written-end}
+use Rattle.reader.proofs.Rows.{map-snoc, map-endAt, Sized, written, written-put, written-end}
+use Rattle.profile.proofs.Went.{endAt-length}
 
 -- ---- the open elements
 pub path-length : (O : List ℕ) (d : ℕ) → length (pathIn O d) ≡ d
@@ -108,42 +109,34 @@ ltb-add j w z =
     (λ e. lt-ltb (j + w) (j + z) (omega (arith, ltb-true w z e)))
 
 -- ---- what is noted
-memory-if : (b : Bool) → b ≡ true → (x y : Memory) → cond b x y ≡ x
-memory-if true e x y = refl
-memory-if false e x y = absurd (false≢true e)
-
-memory-else : (b : Bool) → b ≡ false → (x y : Memory) → cond b x y ≡ y
-memory-else true e x y = absurd (false≢true (sym e))
-memory-else false e x y = refl
-
 module _ (at : ℕ) (t : List ℕ) (q : pieces.Piece) (m : Memory) where
   noted-data : q .kind ≡ DATA → noted at t q m ≡ notedData at q m (m .path)
   unfolding noted
-  noted-data k = memory-if (eqb (q .kind) DATA) (ap (λ i. eqb i DATA) k) _ _
+  noted-data k = cond-true (eqb (q .kind) DATA) (ap (λ i. eqb i DATA) k) _ _
 
   pub noted-close : q .kind ≡ CLOSE → noted at t q m ≡ closed (at + q .size - 1) (reader.marked at m)
   unfolding noted
   noted-close k =
-      memory-else (eqb (q .kind) DATA) (ap (λ i. eqb i DATA) k) _ _ ∙ memory-if (eqb (q .kind) CLOSE) (ap (λ i. eqb i CLOSE) k) _ _
+      cond-false (eqb (q .kind) DATA) (ap (λ i. eqb i DATA) k) _ _ ∙ cond-true (eqb (q .kind) CLOSE) (ap (λ i. eqb i CLOSE) k) _ _
 
   pub noted-start : q .kind ≡ START → noted at t q m ≡ opened (turns.nameOf t q) (at + q .size - 1) (reader.marked at m)
   unfolding noted
   noted-start k =
-      memory-else (eqb (q .kind) DATA) (ap (λ i. eqb i DATA) k) _ _ ∙ memory-else (eqb (q .kind) CLOSE) (ap (λ i. eqb i CLOSE) k) _ _ ∙
-      memory-if (eqb (q .kind) START) (ap (λ i. eqb i START) k) _ _
+      cond-false (eqb (q .kind) DATA) (ap (λ i. eqb i DATA) k) _ _ ∙ cond-false (eqb (q .kind) CLOSE) (ap (λ i. eqb i CLOSE) k) _ _ ∙
+      cond-true (eqb (q .kind) START) (ap (λ i. eqb i START) k) _ _
 
   pub noted-empty : q .kind ≡ EMPTY → noted at t q m ≡ emptied (turns.nameOf t q) (at + q .size - 1) (reader.marked at m)
   unfolding noted
   noted-empty k =
-      memory-else (eqb (q .kind) DATA) (ap (λ i. eqb i DATA) k) _ _ ∙ memory-else (eqb (q .kind) CLOSE) (ap (λ i. eqb i CLOSE) k) _ _ ∙
-      memory-else (eqb (q .kind) START) (ap (λ i. eqb i START) k) _ _ ∙ memory-if (eqb (q .kind) EMPTY) (ap (λ i. eqb i EMPTY) k) _ _
+      cond-false (eqb (q .kind) DATA) (ap (λ i. eqb i DATA) k) _ _ ∙ cond-false (eqb (q .kind) CLOSE) (ap (λ i. eqb i CLOSE) k) _ _ ∙
+      cond-false (eqb (q .kind) START) (ap (λ i. eqb i START) k) _ _ ∙ cond-true (eqb (q .kind) EMPTY) (ap (λ i. eqb i EMPTY) k) _ _
 
   noted-comment : q .kind ≡ COMMENT → noted at t q m ≡ reader.marked at m
   unfolding noted
   noted-comment k =
-      memory-else (eqb (q .kind) DATA) (ap (λ i. eqb i DATA) k) _ _ ∙ memory-else (eqb (q .kind) CLOSE) (ap (λ i. eqb i CLOSE) k) _ _ ∙
-      memory-else (eqb (q .kind) START) (ap (λ i. eqb i START) k) _ _ ∙ memory-else (eqb (q .kind) EMPTY) (ap (λ i. eqb i EMPTY) k) _ _ ∙
-      memory-if (eqb (q .kind) COMMENT) (ap (λ i. eqb i COMMENT) k) (reader.marked at m) m
+      cond-false (eqb (q .kind) DATA) (ap (λ i. eqb i DATA) k) _ _ ∙ cond-false (eqb (q .kind) CLOSE) (ap (λ i. eqb i CLOSE) k) _ _ ∙
+      cond-false (eqb (q .kind) START) (ap (λ i. eqb i START) k) _ _ ∙ cond-false (eqb (q .kind) EMPTY) (ap (λ i. eqb i EMPTY) k) _ _ ∙
+      cond-true (eqb (q .kind) COMMENT) (ap (λ i. eqb i COMMENT) k) (reader.marked at m) m
 
 -- ---- names
 pub Named : List ℕ → List Node → Type 0

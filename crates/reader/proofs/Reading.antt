@@ -6,7 +6,7 @@
 use Prim.Native.Nat.{ℕ, suc, _+_, _*_, _≤_, _<_}
 use mathlib.Core.Path.{_≡_, refl, sym, ap, _∙_}
 use mathlib.Core.List.{List, [], _∷_, _++_, map}
-use mathlib.Core.Bool.{Bool, true, false, cond, _&&_, _||_, false≢true}
+use mathlib.Core.Bool.{Bool, true, false, cond, _&&_, _||_}
 use mathlib.Core.Option.{some, none}
 use native.Mathlib.Omega.{arith}
 use lib.Dec.{eqb, ltb, leb}
@@ -14,7 +14,7 @@ use lib.ListN.{length, length-map, take, drop, length-append, length-drop}
 use lib.Seq.{length-take-le}
 use borrow.Author.Tests.{eq-eqb, ne-eqb, leb-true, leb-false, le-leb, lt-leb, le-ltb}
 use Rattle.seq.specs.Memory.{zeroed, over}
-use Rattle.seq.proofs.Laws.Bools.{and-left, and-right, and-both, and-false-right}
+use Rattle.seq.proofs.Laws.Bools.{and-left, and-right, and-both, and-false-right, cond-true, cond-false}
 use Rattle.index.specs.declared.Reply.{Reply}
 use Rattle.index.specs.Replies.{accepted, SIZE, ROOM, refused, totalled, keptOr}
 use Rattle.profile.specs.Tree.{Node}
@@ -163,27 +163,11 @@ counted T r e z =
         ap treeOf (sym (kept .kept .whole .is)) ∙ tree-read (kept .kept .whole .document) ∙
         kept .kept .nodes (kept .kept .whole .document) (kept .kept .whole .is)
 
-if-so : (b : Bool) → b ≡ true → (x y : Reply) → cond b x y ≡ x
-if-so true e x y = refl
-if-so false e x y = absurd (false≢true e)
-
-if-not : (b : Bool) → b ≡ false → (x y : Reply) → cond b x y ≡ y
-if-not true e x y = absurd (false≢true (sym e))
-if-not false e x y = refl
-
-if-row-so : (b : Bool) → b ≡ true → (x y : List ℕ) → cond b x y ≡ x
-if-row-so true e x y = refl
-if-row-so false e x y = absurd (false≢true e)
-
-if-row-not : (b : Bool) → b ≡ false → (x y : List ℕ) → cond b x y ≡ y
-if-row-not true e x y = absurd (false≢true (sym e))
-if-row-not false e x y = refl
-
 -- ---- the reply
 module _ (T : List ℕ) (l : Lent) (r : Reply) (e : r ≡ judgeReply T) where
   refused-reply : (r .refusal ≡ accepted → ⊥) → r ≡ readReply T l
   unfolding readReply
-  refused-reply n = e ∙ sym (if-not (eqb (judgeReply T .refusal) accepted) (ne-eqb (judgeReply T .refusal) accepted λ z. n (ap (λ (r : Reply). r .refusal) e ∙ z)) _ _)
+  refused-reply n = e ∙ sym (cond-false (eqb (judgeReply T .refusal) accepted) (ne-eqb (judgeReply T .refusal) accepted λ z. n (ap (λ (r : Reply). r .refusal) e ∙ z)) _ _)
 
   module _ (z : r .refusal ≡ accepted) where
     accepted-is : eqb (judgeReply T .refusal) accepted ≡ true
@@ -193,12 +177,12 @@ module _ (T : List ℕ) (l : Lent) (r : Reply) (e : r ≡ judgeReply T) where
     unfolding readReply
     room-reply f =
         ap (λ (r : Reply). totalled ROOM (r .total)) e ∙
-        sym (if-so (eqb (judgeReply T .refusal) accepted) accepted-is _ _ ∙ if-not (fitsIn (judgeReply T .total) l) (sym (ap (λ (r : Reply). fitsIn (r .total) l) e) ∙ f) _ _)
+        sym (cond-true (eqb (judgeReply T .refusal) accepted) accepted-is _ _ ∙ cond-false (fitsIn (judgeReply T .total) l) (sym (ap (λ (r : Reply). fitsIn (r .total) l) e) ∙ f) _ _)
 
     full-reply : fitsIn (r .total) l ≡ true → r ≡ readReply T l
     unfolding readReply
     full-reply f =
-        e ∙ sym (if-so (eqb (judgeReply T .refusal) accepted) accepted-is _ _ ∙ if-so (fitsIn (judgeReply T .total) l) (sym (ap (λ (r : Reply). fitsIn (r .total) l) e) ∙ f) _ _)
+        e ∙ sym (cond-true (eqb (judgeReply T .refusal) accepted) accepted-is _ _ ∙ cond-true (fitsIn (judgeReply T .total) l) (sym (ap (λ (r : Reply). fitsIn (r .total) l) e) ∙ f) _ _)
 
 -- ---- lengths
 pub tags-length : (seen l : List (List ℕ)) → length (tagsAfter seen l) ≡ length l
@@ -232,7 +216,7 @@ untouched T l r e n =
       tags = kept-as r (tagsIn (treeOf T)) (l .tags) n;
       firsts = kept-as r (firstsOf (treeOf T)) (l .firsts) n;
       lasts = kept-as r (lastsOf (treeOf T)) (l .lasts) n;
-      work = sym (if-row-not (eqb (r .refusal) accepted) (ne-eqb (r .refusal) accepted n) _ _);
+      work = sym (cond-false (eqb (r .refusal) accepted) (ne-eqb (r .refusal) accepted n) _ _);
     }
 
 pub refused-reads : (T : List ℕ) (l : Lent) (r : Reply) → r ≡ judgeReply T → (r .refusal ≡ accepted → ⊥) → Reads T l r l
@@ -307,7 +291,7 @@ accepted-reads T l r n e z q f k w =
       tags = row (k .tags) (l .tags) (tagsIn (treeOf T)) (w .tags) (tags-count (map (λ (a : Node). a .name) (treeOf T)) ∙ length-map (treeOf T) (λ (a : Node). a .name));
       firsts = row (k .firsts) (l .firsts) (firstsOf (treeOf T)) (w .firsts) (length-map (treeOf T) (λ (a : Node). a .first));
       lasts = row (k .lasts) (l .lasts) (lastsOf (treeOf T)) (w .lasts) (length-map (treeOf T) (λ (a : Node). a .last));
-      work = w .work ∙ sym (if-row-so (eqb (r .refusal) accepted) (eq-eqb (r .refusal) accepted z) _ _);
+      work = w .work ∙ sym (cond-true (eqb (r .refusal) accepted) (eq-eqb (r .refusal) accepted z) _ _);
     }
   where
     size : length (treeOf T) ≡ n

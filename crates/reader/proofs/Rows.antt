@@ -42,12 +42,6 @@ lasts-endAt v l [] = refl
 lasts-endAt zero l (a ∷ ns) = refl
 lasts-endAt (suc v) l (a ∷ ns) = ap (λ r. a .last ∷ r) (lasts-endAt v l ns)
 
-pub endAt-length : (v l : ℕ) (ns : List Node) → length (endAt v l ns) ≡ length ns
-unfolding endAt
-endAt-length v l [] = refl
-endAt-length zero l (a ∷ ns) = refl
-endAt-length (suc v) l (a ∷ ns) = ap suc (endAt-length v l ns)
-
 -- ---- four rows
 pub record Sized (n : ℕ) (R : Rows) : Type 0 where
   pub parents : length (R .parents) ≡ n
