@@ -16,6 +16,9 @@ sq_reply plain_slca(const lent *x, uint32_t *work, size_t work_len, uint32_t *ou
 /* Over three rows: the closest entity of each node, which is the node itself where it is one; then two rows of zeros. Where the tree breaks a rule nothing is touched. */
 void plain_closest(const lent *x, uint32_t *rows);
 sq_reply plain_valid(const lent *x, uint32_t *work, size_t work_len, uint32_t *out, size_t out_len);
+/* These read no counts. */
+sq_reply plain_merge_elca(const lent *x, sq_entry *stack, size_t stack_len, uint32_t *out, size_t out_len, uint32_t *own, size_t own_len);
+sq_reply plain_merge_slca(const lent *x, sq_entry *stack, size_t stack_len, uint32_t *out, size_t out_len);
 /* In plain_read.c. */
 sq_reply plain_read(const uint8_t *text, size_t text_len, uint32_t *parents, size_t parents_len, uint32_t *tags, size_t tags_len, uint32_t *firsts, size_t firsts_len,
                     uint32_t *lasts, size_t lasts_len, uint32_t *work, size_t work_len);

@@ -1,5 +1,6 @@
-/* One search from start to printed answer: the nodes of a small schedule that hold the word A and not the word X.
- * `make example` builds and runs it; it prints "refusal 0, place 0, total 2: 4 17". */
+/* Two searches from start to printed answer: the nodes of a small schedule that hold the word A and not the word X; and those that
+ * hold A, found without counts. `make example` builds and runs it; it prints
+ * "refusal 0, place 0, total 2: 4 17" and "refusal 0, place 0, total 3: 4 9 17". */
 #include <sonquilate.h>
 
 #include <stdio.h>
@@ -28,13 +29,22 @@ static void fill_counts(void) {
     }
 }
 
-int main(void) {
-    static uint32_t work[(K + 2) * N], out[N];
-    fill_counts();
-    sq_reply r = sq_valid(parents, N, tags, N, P, Q, ends, K, occurrences, ALL, counts, K * N, work, (K + 2) * N, out, N);
+static void print(sq_reply r, const uint32_t *out) {
     printf("refusal %u, place %u, total %u:", (unsigned)r.refusal, (unsigned)r.place, (unsigned)r.total);
     for (uint32_t i = 0; r.refusal == SQ_OK && i < r.total; i++)
         printf(" %u", (unsigned)out[i]);
     printf("\n");
-    return r.refusal == SQ_OK ? 0 : 1;
+}
+
+int main(void) {
+    static uint32_t work[(K + 2) * N], out[N];
+    fill_counts();
+    sq_reply r = sq_valid(parents, N, tags, N, P, Q, ends, K, occurrences, ALL, counts, K * N, work, (K + 2) * N, out, N);
+    print(r, out);
+
+    /* No counts, and in place of work a stack. It takes no negative words: the list of A alone. */
+    static sq_entry stack[64];
+    sq_reply s = sq_merge_slca(parents, N, tags, N, P, 0, ends, P, occurrences, ends[P - 1], stack, 64, out, N);
+    print(s, out);
+    return r.refusal == SQ_OK && s.refusal == SQ_OK ? 0 : 1;
 }

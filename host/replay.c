@@ -1,6 +1,7 @@
 /* Replays the cases of a case file (second/README.md says its layout) through include/sonquilate.h, from standard input. For
  * each case one line: its number, the call, the reply, and the final content of each slice that the call may write, as its
- * length and a hash: of a search work, out and own, of the reader parents, tags, firsts, lasts and work.
+ * length and a hash: of a search work, out and own, of a search without counts the stack, out and own, of the reader parents,
+ * tags, firsts, lasts and work.
  * Every slice stands between fences of its own, and what is lent to be read is hashed before and after: a write to
  * anything else, or past a slice's ends, stops the run with status 3. In every other case an empty slice is lent
  * as a null pointer. The text stands at every alignment in turn. */
@@ -10,19 +11,27 @@
 #include <stdlib.h>
 
 #define SEARCH_CASE 0x53514C43u
+#define MERGE_CASE 0x53514C4Du
 #define READ_CASE 0x53514C52u
 #define FENCE 0xA5A5A5A5u
 
 enum { PARENTS, TAGS, ENDS, OCCURRENCES, COUNTS, WORK, OUT, OWN, SLICES };
 enum { CHECK, ELCA, SLCA, VALID, SEARCHES };
+enum { MERGE_ELCA, MERGE_SLCA, MERGES };
 enum { READ_PARENTS, READ_TAGS, READ_FIRSTS, READ_LASTS, READ_WORK, READ_SLICES };
 
 static const char *const names[SEARCHES] = {"check", "elca", "slca", "valid"};
+static const char *const merge_names[MERGES] = {"merge_elca", "merge_slca"};
 
 typedef struct slice {
     uint32_t *at;
     size_t length;
 } slice;
+
+typedef struct entries {
+    sq_entry *at;
+    size_t length;
+} entries;
 
 typedef struct bytes {
     uint8_t *at;
@@ -50,12 +59,16 @@ static int numbers(uint32_t *to, size_t length) {
 #define HASH_START 14695981039346656037u
 #define HASH_FACTOR 1099511628211u
 
-static uint64_t hash(slice s) {
-    uint64_t h = HASH_START;
-    for (size_t i = 0; i < s.length; i++)
+/* The hash h, once so many numbers more are hashed. */
+static uint64_t hash_on(uint64_t h, const uint32_t *at, size_t length) {
+    for (size_t i = 0; i < length; i++)
         for (int byte = 0; byte < 4; byte++)
-            h = (h ^ (s.at[i] >> 8 * byte & 255u)) * HASH_FACTOR;
+            h = (h ^ (at[i] >> 8 * byte & 255u)) * HASH_FACTOR;
     return h;
+}
+
+static uint64_t hash(slice s) {
+    return hash_on(HASH_START, s.at, s.length);
 }
 
 static uint64_t hash_bytes(bytes b) {
@@ -94,11 +107,30 @@ static slice as_lent(slice s, unsigned long index) {
     return s.length == 0 && index % 2 == 1 ? null : s;
 }
 
-static void print(sq_reply r, const slice *s, int from, int to) {
+static void print_reply(sq_reply r) {
     printf(" %u %u %u", (unsigned)r.refusal, (unsigned)r.place, (unsigned)r.total);
+}
+
+static void print_hash(size_t length, uint64_t h) {
+    printf(" %lu:%016llx", (unsigned long)length, (unsigned long long)h);
+}
+
+static void print_slices(const slice *s, int from, int to) {
     for (int i = from; i < to; i++)
-        printf(" %lu:%016llx", (unsigned long)s[i].length, (unsigned long long)hash(s[i]));
+        print_hash(s[i].length, hash(s[i]));
     printf("\n");
+}
+
+/* What is lent to be read comes first among the slices: it is hashed before a call, and held against that after it. */
+static void hash_lent(const slice *s, int count, uint64_t *hashes) {
+    for (int i = 0; i < count; i++)
+        hashes[i] = hash(s[i]);
+}
+
+static void hold_lent(const slice *s, int count, const uint64_t *hashes, unsigned long index) {
+    for (int i = 0; i < count; i++)
+        if (hash(s[i]) != hashes[i])
+            stop(3, "a write to what is lent to be read", index);
 }
 
 /* ---- a search */
@@ -121,16 +153,14 @@ static sq_reply call(uint32_t search, uint32_t p, uint32_t q, const slice *s) {
 static void try(unsigned long index, uint32_t search, uint32_t p, uint32_t q, const slice *s) {
     uint64_t before[WORK];
     slice lent[SLICES];
-    for (int i = 0; i < WORK; i++)
-        before[i] = hash(s[i]);
+    hash_lent(s, WORK, before);
     for (int i = 0; i < SLICES; i++)
         lent[i] = as_lent(s[i], index);
     sq_reply r = call(search, p, q, lent);
-    for (int i = 0; i < WORK; i++)
-        if (hash(s[i]) != before[i])
-            stop(3, "a write to what is lent to be read", index);
+    hold_lent(s, WORK, before, index);
     printf("%lu %s", index, names[search]);
-    print(r, s, WORK, SLICES);
+    print_reply(r);
+    print_slices(s, WORK, SLICES);
 }
 
 static void replay_search(unsigned long index) {
@@ -143,6 +173,100 @@ static void replay_search(unsigned long index) {
     try(index, head[0], head[1], head[2], s);
     for (int i = 0; i < SLICES; i++)
         take_back(s[i], index);
+}
+
+/* ---- a search without counts */
+
+enum { MERGE_OUT = OCCURRENCES + 1, MERGE_OWN, MERGE_SLICES };
+enum { ENTRY_WORDS = 8 };
+
+/* Reads an entry, field by field; 0 where the input ends before. */
+static int entry_numbers(sq_entry *to) {
+    return numbers(&to->node, 1) && numbers(to->own, ENTRY_WORDS) && numbers(to->covered, ENTRY_WORDS);
+}
+
+static uint64_t hash_entries(entries stack) {
+    uint64_t h = HASH_START;
+    for (size_t i = 0; i < stack.length; i++) {
+        h = hash_on(h, &stack.at[i].node, 1);
+        h = hash_on(h, stack.at[i].own, ENTRY_WORDS);
+        h = hash_on(h, stack.at[i].covered, ENTRY_WORDS);
+    }
+    return h;
+}
+
+/* The fences of a stack are whole entries. */
+static void set_fence(sq_entry *at) {
+    at->node = FENCE;
+    for (int j = 0; j < ENTRY_WORDS; j++)
+        at->own[j] = at->covered[j] = FENCE;
+}
+
+static int fence_stands(const sq_entry *at) {
+    int stands = at->node == FENCE;
+    for (int j = 0; j < ENTRY_WORDS; j++)
+        stands = stands && at->own[j] == FENCE && at->covered[j] == FENCE;
+    return stands;
+}
+
+static entries lend_stack(size_t length, unsigned long index) {
+    sq_entry *with_fences = memory((length + 2) * sizeof(sq_entry), index);
+    entries stack = {with_fences + 1, length};
+    set_fence(with_fences);
+    set_fence(stack.at + length);
+    for (size_t i = 0; i < length; i++)
+        if (!entry_numbers(stack.at + i))
+            stop(1, "the file ends inside a case", index);
+    return stack;
+}
+
+static void take_back_stack(entries stack, unsigned long index) {
+    if (!fence_stands(stack.at - 1) || !fence_stands(stack.at + stack.length))
+        stop(3, "a write past the stack", index);
+    free(stack.at - 1);
+}
+
+static sq_reply call_merge(uint32_t search, uint32_t p, uint32_t q, const slice *s, entries stack) {
+#define LISTS LENT(s[PARENTS]), LENT(s[TAGS]), p, q, LENT(s[ENDS]), LENT(s[OCCURRENCES]), LENT(stack)
+    if (search == MERGE_ELCA)
+        return sq_merge_elca(LISTS, LENT(s[MERGE_OUT]), LENT(s[MERGE_OWN]));
+    return sq_merge_slca(LISTS, LENT(s[MERGE_OUT]));
+#undef LISTS
+}
+
+static void try_merge(unsigned long index, uint32_t search, uint32_t p, uint32_t q, const slice *s, entries stack) {
+    uint64_t before[MERGE_OUT];
+    slice lent[MERGE_SLICES];
+    entries lent_stack = stack;
+    hash_lent(s, MERGE_OUT, before);
+    for (int i = 0; i < MERGE_SLICES; i++)
+        lent[i] = as_lent(s[i], index);
+    if (stack.length == 0 && index % 2 == 1)
+        lent_stack.at = NULL;
+    sq_reply r = call_merge(search, p, q, lent, lent_stack);
+    hold_lent(s, MERGE_OUT, before, index);
+    printf("%lu %s", index, merge_names[search]);
+    print_reply(r);
+    print_hash(stack.length, hash_entries(stack));
+    print_slices(s, MERGE_OUT, MERGE_SLICES);
+}
+
+/* Of the lengths, that of the stack stands between those of the occurrences and of out. */
+static void replay_merge(unsigned long index) {
+    uint32_t head[3 + MERGE_SLICES + 1];
+    const uint32_t *lengths = head + 3;
+    slice s[MERGE_SLICES];
+    if (!numbers(head, 3 + MERGE_SLICES + 1) || head[0] >= MERGES)
+        stop(1, "no case file", index);
+    for (int i = 0; i < MERGE_OUT; i++)
+        s[i] = lend(lengths[i], index);
+    entries stack = lend_stack(lengths[MERGE_OUT], index);
+    for (int i = MERGE_OUT; i < MERGE_SLICES; i++)
+        s[i] = lend(lengths[i + 1], index);
+    try_merge(index, head[0], head[1], head[2], s, stack);
+    for (int i = 0; i < MERGE_SLICES; i++)
+        take_back(s[i], index);
+    take_back_stack(stack, index);
 }
 
 /* ---- the reader */
@@ -188,7 +312,8 @@ static void try_read(unsigned long index, bytes text, const slice *s) {
     if (hash_bytes(text) != before)
         stop(3, "a write to the text", index);
     printf("%lu read", index);
-    print(r, s, READ_PARENTS, READ_SLICES);
+    print_reply(r);
+    print_slices(s, READ_PARENTS, READ_SLICES);
 }
 
 static void replay_read(unsigned long index) {
@@ -210,6 +335,8 @@ int main(void) {
     for (unsigned long index = 0; numbers(&magic, 1); index++) {
         if (magic == SEARCH_CASE)
             replay_search(index);
+        else if (magic == MERGE_CASE)
+            replay_merge(index);
         else if (magic == READ_CASE)
             replay_read(index);
         else

@@ -16,7 +16,14 @@
  *   occurrences  for each word, one after the other, the nodes at which it occurs, strictly increasing
  *   counts       k * n entries: counts[j * n + v] is the number of occurrences of word j under node v
  *   work         at least (k + 2) * n entries, with any content
- * "Under v" means at v itself or at a descendant of v.
+ *   stack        at least 64 entries of sq_entry, with any content: one for each level that a tree may have
+ * "Under v" means at v itself or at a descendant of v. sq_merge_elca and sq_merge_slca take the stack, and neither counts nor
+ * work; the other calls on an index take counts and work, and no stack.
+ *
+ * WHICH ENGINE. Where counts are kept: sq_elca and sq_slca, which also hold every count against the lists. Where none are kept,
+ * as in small depots, or the words are rare: sq_merge_elca and sq_merge_slca, which find the answers in the tree and the lists
+ * alone. On every index that the first two accept, these give the same nodes, own counts and total [P: engines-agree]. They take
+ * no counts, and so accept an index whatever counts are kept beside it.
  *
  * THE LENT TEXT, for sq_read: bytes, of a profile of XML 1.0 in ASCII.
  *   document    one root element, with white space and comments before and after it
@@ -39,13 +46,13 @@
  *   lasts        the > of an element's end tag or empty-element tag; the last byte of the data, white space included
  * Such a tree is one that the searches take: its parents and tags never give SQ_TREE. [P: read-lawful]
  *
- * REPLIES of all calls but sq_read. Of the refusals that apply the lowest number is given. [P: checkReply, elcaReply,
- * slcaReply, validReply]
+ * REPLIES of all calls but sq_read. Of the refusals that apply the lowest number is given; a length is asked for where the call
+ * takes the slice. [P: checkReply, elcaReply, slcaReply, validReply, mergeElcaReply, mergeSlcaReply]
  *   number      given exactly when                                                             place                  total
  *   SQ_OK       nothing below applies                                                          0                      the answers
  *   SQ_SIZE     n is not from 1 to 65,536, p not from 1 to 8, or k above 8; tags are not       0                      0
- *               n, ends not k or counts not k * n long; work is shorter than (k + 2) * n;
- *               in sq_elca and sq_slca also: q is above 0
+ *               n, ends not k or counts not k * n long; work is shorter than (k + 2) * n,
+ *               or the stack than 64; in all but sq_check and sq_valid also: q is above 0
  *   SQ_TREE     node 0 is text or not its own parent; a later node's parent is not the         the lowest such node   0
  *               node before it or an ancestor of that, or is text; a level is above 64,
  *               where the root's is 1
@@ -53,8 +60,9 @@
  *               the last end is not that length, or a list is not strictly increasing
  *               below n
  *   SQ_COUNT    an entry of counts is not the number of occurrences                            the lowest such entry  0
- *   SQ_ROOM     out, or own in sq_elca, is too short for the answers                           0                      the answers
- * sq_check has no answers: its total is always 0, and it never gives SQ_ROOM. "The answers" is how many there are.
+ *   SQ_ROOM     out, or own in sq_elca and sq_merge_elca, is too short for the answers         0                      the answers
+ * sq_check has no answers: its total is always 0, and it never gives SQ_ROOM. sq_merge_elca and sq_merge_slca take no counts, and
+ * never give SQ_COUNT. "The answers" is how many there are.
  *
  * REPLIES of sq_read. SQ_SIZE goes before all others; of SQ_MARKUP and SQ_TREE the one whose byte comes first is given; SQ_ROOM
  * comes last. [P: readReply]
@@ -69,15 +77,16 @@
  *   SQ_ROOM     parents, tags, firsts or lasts is shorter than n, or work than 3 * n           0                      n
  *
  * BUFFERS of all calls but sq_read. The index is only read. Under SQ_SIZE nothing is touched. Under every other reply the
- * first (k + 2) * n entries of work are 0 and the rest is untouched. out and own are as lent under every refusal; under SQ_OK
- * their first entries are written, and later entries stay. [P: workAfter, elcaOut, elcaOwn, slcaOut, validOut]
+ * first (k + 2) * n entries of work are 0, or the first 64 of the stack, in every field, and the rest is untouched. out and own
+ * are as lent under every refusal; under SQ_OK their first entries are written, and later entries stay. [P: workAfter,
+ * stackAfter, elcaOut, elcaOwn, slcaOut, validOut, mergeElcaOut, mergeElcaOwn, mergeSlcaOut]
  * BUFFERS of sq_read. The text is only read. Under every refusal nothing is touched. Under SQ_OK the first n entries of
  * parents, tags, firsts and lasts are written, the first 3 * n of work are 0, and later entries of all five stay.
  * [P: Reads]
  *
- * ASKED OF C, which no proof can see: each pointer to numbers is aligned for uint32_t, and each pointer valid for its length,
- * for writing too where it is not const; what may be written overlaps nothing else that is lent. A slice of length 0 is
- * neither read nor written, and may be lent as a null pointer [T].
+ * ASKED OF C, which no proof can see: each pointer to numbers, or to the entries of a stack, is aligned for uint32_t, and each
+ * pointer valid for its length, for writing too where it is not const; what may be written overlaps nothing else that is lent.
+ * A slice of length 0 is neither read nor written, and may be lent as a null pointer [T].
  * That these declarations fit the code, and that nothing is written past a slice: [T].
  */
 #ifndef SONQUILATE_H
@@ -103,6 +112,15 @@ typedef struct sq_reply {
     uint32_t place;
     uint32_t total;
 } sq_reply;
+
+/* An entry of the stack: a node and, for each of the 8 words that there may be, two counts of the word's occurrences under it:
+ * the node's own, and those that full nodes below it cover. What it holds is a matter of the call alone: nothing that a call
+ * gives depends on what is lent in it. */
+typedef struct sq_entry {
+    uint32_t node;
+    uint32_t own[8];
+    uint32_t covered[8];
+} sq_entry;
 
 /* The index check alone. q may be above 0.
  * Replies: SQ_SIZE, SQ_TREE, SQ_LIST, SQ_COUNT, in this order, or SQ_OK with total 0. [P: checkReply]
@@ -145,6 +163,26 @@ sq_reply sq_slca(const uint32_t *parents, size_t parents_len, const uint32_t *ta
 sq_reply sq_valid(const uint32_t *parents, size_t parents_len, const uint32_t *tags, size_t tags_len, uint32_t p, uint32_t q,
                   const uint32_t *ends, size_t ends_len, const uint32_t *occurrences, size_t occurrences_len,
                   const uint32_t *counts, size_t counts_len, uint32_t *work, size_t work_len, uint32_t *out, size_t out_len);
+
+/* ELCA without counts: the answers of sq_elca, in the same order and with the same own counts. q must be 0. A word with an
+ * empty list gives no answers, and is no refusal.
+ * Replies: SQ_SIZE, SQ_TREE, SQ_LIST, in this order, then SQ_ROOM where out is shorter than the answers or own than p times as
+ * many, or SQ_OK. [P: mergeElcaReply]
+ * Buffers: under SQ_OK out begins with the nodes, increasing, and own with p own counts for each of them, in word order; the
+ * rest of both stays. Under a refusal both are as lent. The stack as above. [P: mergeElcaOut, mergeElcaOwn, stackAfter] */
+sq_reply sq_merge_elca(const uint32_t *parents, size_t parents_len, const uint32_t *tags, size_t tags_len, uint32_t p,
+                       uint32_t q, const uint32_t *ends, size_t ends_len, const uint32_t *occurrences, size_t occurrences_len,
+                       sq_entry *stack, size_t stack_len, uint32_t *out, size_t out_len, uint32_t *own, size_t own_len);
+
+/* SLCA without counts: the answers of sq_slca, in the same order. q must be 0. A word with an empty list gives no answers, and
+ * is no refusal.
+ * Replies: SQ_SIZE, SQ_TREE, SQ_LIST, in this order, then SQ_ROOM where out is shorter than the answers, or SQ_OK.
+ * [P: mergeSlcaReply]
+ * Buffers: under SQ_OK out begins with the nodes, increasing, and the rest stays. Under a refusal it is as lent. The stack as
+ * above. [P: mergeSlcaOut, stackAfter] */
+sq_reply sq_merge_slca(const uint32_t *parents, size_t parents_len, const uint32_t *tags, size_t tags_len, uint32_t p,
+                       uint32_t q, const uint32_t *ends, size_t ends_len, const uint32_t *occurrences, size_t occurrences_len,
+                       sq_entry *stack, size_t stack_len, uint32_t *out, size_t out_len);
 
 /* The reader: from the bytes of a text to its tree, as above. With 65,536 entries in each of parents, tags, firsts and lasts and
  * 196,608 in work it never gives SQ_ROOM.

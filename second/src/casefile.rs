@@ -3,24 +3,31 @@
 //! A case is a row of little-endian numbers of 32 bits. Of a search: its magic
 //! number, the search (0 check, 1 elca, 2 slca, 3 valid), p, q, the lengths of
 //! parents, tags, ends, occurrences, counts, work, out and own, then their
-//! contents in the same order. Of the reader: its magic number, the lengths of
-//! text, parents, tags, firsts, lasts and work, then their contents, the text
-//! with up to three bytes of 0 behind it. A file is cases one after the other.
+//! contents in the same order. Of a search without counts: its magic number, the
+//! search (0 elca, 1 slca), p, q, the lengths of parents, tags, ends,
+//! occurrences, stack, out and own, then their contents, an entry of the stack
+//! as its 17 numbers. Of the reader: its magic number, the lengths of text,
+//! parents, tags, firsts, lasts and work, then their contents, the text with up
+//! to three bytes of 0 behind it. A file is cases one after the other.
 
-use crate::call::{After, Call, Search};
+use crate::call::{After, Call, Reply, Search};
 use crate::judge;
+use crate::merge;
+use crate::merge::call::{Entry, Merge, Merged, Merging, NUMBERS};
 use crate::xml;
 use crate::xml::call::{Read as ReadAfter, Reading};
 use crate::xml::seen::{characters, seen, Seen};
 use std::io::{self, Read, Write};
 
 pub const MAGIC: u32 = 0x5351_4C43;
+pub const MERGING: u32 = 0x5351_4C4D;
 pub const READING: u32 = 0x5351_4C52;
 
-/// A case of either kind.
+/// A case of any kind.
 #[derive(Clone, PartialEq, Eq, Debug)]
 pub enum Case {
     Search(Call),
+    Merging(Merging),
     Reading(Reading),
 }
 
@@ -54,6 +61,30 @@ fn write_search(sink: &mut impl Write, call: &Call) -> io::Result<()> {
     Ok(())
 }
 
+/// The numbers of a stack, entry by entry.
+fn flat(stack: &[Entry]) -> Vec<u32> {
+    stack.iter().flat_map(Entry::numbers).collect()
+}
+
+fn write_merging(sink: &mut impl Write, call: &Merging) -> io::Result<()> {
+    let index = [&call.parents, &call.tags, &call.ends, &call.occurrences];
+    let buffers = [&call.out, &call.own];
+    let merge = Merge::ALL.iter().position(|&m| m == call.merge).unwrap();
+    let mut head = vec![MERGING, merge as u32, call.p, call.q];
+    head.extend(index.iter().map(|slice| slice.len() as u32));
+    head.push(call.stack.len() as u32);
+    head.extend(buffers.iter().map(|slice| slice.len() as u32));
+    sink.write_all(&bytes(&head))?;
+    for slice in index {
+        sink.write_all(&bytes(slice))?;
+    }
+    sink.write_all(&bytes(&flat(&call.stack)))?;
+    for slice in buffers {
+        sink.write_all(&bytes(slice))?;
+    }
+    Ok(())
+}
+
 fn write_reading(sink: &mut impl Write, call: &Reading) -> io::Result<()> {
     let slices = [&call.parents, &call.tags, &call.firsts, &call.lasts, &call.work];
     let mut head = vec![READING, call.text.len() as u32];
@@ -71,6 +102,7 @@ fn write_reading(sink: &mut impl Write, call: &Reading) -> io::Result<()> {
 pub fn write(sink: &mut impl Write, case: &Case) -> io::Result<()> {
     match case {
         Case::Search(call) => write_search(sink, call),
+        Case::Merging(call) => write_merging(sink, call),
         Case::Reading(call) => write_reading(sink, call),
     }
 }
@@ -117,6 +149,34 @@ fn read_search(source: &mut impl Read) -> io::Result<Call> {
     })
 }
 
+fn read_stack(source: &mut impl Read, length: u32) -> io::Result<Vec<Entry>> {
+    (0..length)
+        .map(|_| {
+            let numbers = read_numbers(source, NUMBERS as u32)?;
+            Ok(Entry::of(numbers.as_slice().try_into().unwrap()))
+        })
+        .collect()
+}
+
+fn read_merging(source: &mut impl Read) -> io::Result<Merging> {
+    let head = read_numbers(source, 10)?;
+    let merge = *Merge::ALL
+        .get(head[0] as usize)
+        .ok_or_else(|| broken("a case names an unknown search"))?;
+    Ok(Merging {
+        merge,
+        p: head[1],
+        q: head[2],
+        parents: read_numbers(source, head[3])?,
+        tags: read_numbers(source, head[4])?,
+        ends: read_numbers(source, head[5])?,
+        occurrences: read_numbers(source, head[6])?,
+        stack: read_stack(source, head[7])?,
+        out: read_numbers(source, head[8])?,
+        own: read_numbers(source, head[9])?,
+    })
+}
+
 fn read_reading(source: &mut impl Read) -> io::Result<Reading> {
     let head = read_numbers(source, 6)?;
     let text = read_bytes(source, u64::from(head[0]))?;
@@ -140,6 +200,8 @@ pub fn read(source: &mut impl Read) -> io::Result<Option<Case>> {
         Ok(None)
     } else if first == MAGIC.to_le_bytes() {
         Ok(Some(Case::Search(read_search(source)?)))
+    } else if first == MERGING.to_le_bytes() {
+        Ok(Some(Case::Merging(read_merging(source)?)))
     } else if first == READING.to_le_bytes() {
         Ok(Some(Case::Reading(read_reading(source)?)))
     } else {
@@ -165,15 +227,34 @@ fn print(numbers: &[u32]) -> String {
     format!("{}:{:016x}", numbers.len(), fnv1a(numbers))
 }
 
+/// A stack's length in entries, and the hash of their numbers.
+fn print_stack(stack: &[Entry]) -> String {
+    format!("{}:{:016x}", stack.len(), fnv1a(&flat(stack)))
+}
+
+fn print_reply(reply: Reply) -> String {
+    format!("{} {} {}", reply.refusal, reply.place, reply.total)
+}
+
 /// `INDEX SEARCH refusal place total W O S`, without the line end.
 pub fn line(index: usize, search: Search, after: &After) -> String {
     format!(
-        "{index} {} {} {} {} {} {} {}",
+        "{index} {} {} {} {} {}",
         search.name(),
-        after.reply.refusal,
-        after.reply.place,
-        after.reply.total,
+        print_reply(after.reply),
         print(&after.work),
+        print(&after.out),
+        print(&after.own),
+    )
+}
+
+/// `INDEX SEARCH refusal place total K O S`, without the line end.
+pub fn merging_line(index: usize, merge: Merge, after: &Merged) -> String {
+    format!(
+        "{index} {} {} {} {} {}",
+        merge.name(),
+        print_reply(after.reply),
+        print_stack(&after.stack),
         print(&after.out),
         print(&after.own),
     )
@@ -182,10 +263,8 @@ pub fn line(index: usize, search: Search, after: &After) -> String {
 /// `INDEX read refusal place total P T F L W`, without the line end.
 pub fn reading_line(index: usize, after: &ReadAfter) -> String {
     format!(
-        "{index} read {} {} {} {} {} {} {} {}",
-        after.reply.refusal,
-        after.reply.place,
-        after.reply.total,
+        "{index} read {} {} {} {} {} {}",
+        print_reply(after.reply),
         print(&after.parents),
         print(&after.tags),
         print(&after.firsts),
@@ -198,6 +277,7 @@ pub fn reading_line(index: usize, after: &ReadAfter) -> String {
 pub fn expected(index: usize, case: &Case) -> String {
     match case {
         Case::Search(call) => line(index, call.search, &judge::judge(call)),
+        Case::Merging(call) => merging_line(index, call.merge, &merge::judge::judge(call)),
         Case::Reading(call) => reading_line(index, &xml::judge::judge(call)),
     }
 }

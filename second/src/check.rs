@@ -9,7 +9,7 @@ use crate::list::{list_fault, lists};
 use crate::size::size_broken;
 use crate::tree::tree_fault;
 
-fn refused(refusal: u32, place: usize) -> Reply {
+pub fn refused(refusal: u32, place: usize) -> Reply {
     Reply {
         refusal,
         place: place as u32,

@@ -23,24 +23,26 @@ pub fn answer(search: Search, index: &Index) -> (Vec<u32>, Vec<u32>) {
     }
 }
 
+/// Writes an answer where it fits, and replies.
+pub fn list((nodes, counts): (Vec<u32>, Vec<u32>), out: &mut [u32], own: &mut [u32]) -> Reply {
+    let fits = nodes.len() <= out.len() && counts.len() <= own.len();
+    if fits {
+        out[..nodes.len()].copy_from_slice(&nodes);
+        own[..counts.len()].copy_from_slice(&counts);
+    }
+    Reply {
+        refusal: if fits { ACCEPTED } else { ROOM },
+        place: 0,
+        total: nodes.len() as u32,
+    }
+}
+
 pub fn judge(call: &Call) -> After {
     let mut out = call.out.clone();
     let mut own = call.own.clone();
     let reply = match check(call) {
         Err(refusal) => refusal,
-        Ok(index) => {
-            let (nodes, counts) = answer(call.search, &index);
-            let fits = nodes.len() <= out.len() && counts.len() <= own.len();
-            if fits {
-                out[..nodes.len()].copy_from_slice(&nodes);
-                own[..counts.len()].copy_from_slice(&counts);
-            }
-            Reply {
-                refusal: if fits { ACCEPTED } else { ROOM },
-                place: 0,
-                total: nodes.len() as u32,
-            }
-        }
+        Ok(index) => list(answer(call.search, &index), &mut out, &mut own),
     };
     let mut work = call.work.clone();
     if reply.refusal != SIZE {

@@ -1,7 +1,7 @@
 //! The commands. See the README for what they read and write.
 
 use second::casefile::Case;
-use second::gen::{large, large_texts, near, reading, small, tables};
+use second::gen::{large, large_merges, large_texts, merges, near, reading, small, tables};
 use second::xml::seen::seen;
 use second::{casefile, show, table};
 use std::fs::File;
@@ -14,6 +14,8 @@ usage:
   second table                   table from standard input, answers to standard output
   second cases SEED COUNT        COUNT small cases to standard output
   second large SEED              the large cases to standard output
+  second merges SEED COUNT       COUNT small cases of the searches without counts to standard output
+  second large-merges SEED       the large cases of the searches without counts to standard output
   second texts SEED COUNT        COUNT small cases of the reader to standard output
   second near-texts              every text next to some small ones, as cases of the reader
   second large-texts SEED        the large cases of the reader to standard output
@@ -104,7 +106,7 @@ fn print_seen(file: &str) -> io::Result<()> {
     each_case(file, |index, case| {
         let lines = match &case {
             Case::Reading(call) => casefile::seen_lines(index, &call.text),
-            Case::Search(_) => None,
+            Case::Search(_) | Case::Merging(_) => None,
         };
         let lines = lines.ok_or_else(|| other(format!("case {index} is not plain")))?;
         sink.write_all(lines.as_bytes())
@@ -152,6 +154,17 @@ fn run(words: &[&str]) -> Result<(), Trouble> {
         ["large", seed] => {
             let seed = number(seed)?;
             write_cases((0..large::how_many()).map(|case| Case::Search(large::large(seed, case).0)))?
+        }
+        ["merges", seed, count] => {
+            let seed = number(seed)?;
+            write_cases((0..number(count)?).map(|case| Case::Merging(merges::small(seed, case).merging)))?
+        }
+        ["large-merges", seed] => {
+            let seed = number(seed)?;
+            write_cases(
+                (0..large_merges::how_many())
+                    .map(|case| Case::Merging(large_merges::large(seed, case).merging)),
+            )?
         }
         ["texts", seed, count] => {
             let seed = number(seed)?;

@@ -4,9 +4,11 @@ ghost use Rattle.index.specs.Contracts.{lent, Checked};
 ghost use Rattle.slca.specs.Contracts.{SlcaSearched};
 ghost use Rattle.elca.specs.Contracts.{ElcaSearched};
 ghost use Rattle.valid.specs.Contracts.{ValidSearched};
+ghost use Rattle.merge.specs.Merge.{depot, MergedElca, MergedSlca};
 ghost use Rattle.reader.specs.Read.{Reads};
 ghost use Rattle.reader.specs.Read as read;
 use index::Reply;
+use merge::Entry;
 
 // The index check alone.
 #[no_mangle]
@@ -93,6 +95,43 @@ pub extern "C" fn sq_valid(
         (now (counts .entry))) (now (work .entry)) (now (out .entry)) r (now (work .exit)) (now (out .exit)) ⌝ }
 {
     valid::valid(parents, tags, p, q, ends, occurrences, counts, work, out)
+}
+
+// ELCA without an index's counts, with own counts.
+#[no_mangle]
+pub extern "C" fn sq_merge_elca(
+    parents: &[u32],
+    tags: &[u32],
+    p: u32,
+    q: u32,
+    ends: &[u32],
+    occurrences: &[u32],
+    stack: &mut [Entry],
+    out: &mut [u32],
+    own: &mut [u32],
+) -> Reply
+    ensures { λ r. ⌜ MergedElca (depot (now (parents .entry)) (now (tags .entry)) p q (now (ends .entry)) (now (occurrences .entry)))
+        (now (stack .entry)) (now (out .entry)) (now (own .entry)) r (now (stack .exit)) (now (out .exit)) (now (own .exit)) ⌝ }
+{
+    merge::elca(parents, tags, p, q, ends, occurrences, stack, out, own)
+}
+
+// SLCA without an index's counts.
+#[no_mangle]
+pub extern "C" fn sq_merge_slca(
+    parents: &[u32],
+    tags: &[u32],
+    p: u32,
+    q: u32,
+    ends: &[u32],
+    occurrences: &[u32],
+    stack: &mut [Entry],
+    out: &mut [u32],
+) -> Reply
+    ensures { λ r. ⌜ MergedSlca (depot (now (parents .entry)) (now (tags .entry)) p q (now (ends .entry)) (now (occurrences .entry)))
+        (now (stack .entry)) (now (out .entry)) r (now (stack .exit)) (now (out .exit)) ⌝ }
+{
+    merge::slca(parents, tags, p, q, ends, occurrences, stack, out)
 }
 
 // XML text into parents, tags, and each node's first and last place.

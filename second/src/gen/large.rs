@@ -124,6 +124,11 @@ pub fn how_many() -> usize {
     rows().len()
 }
 
+/// The search of large case `number`.
+pub fn search(number: usize) -> Search {
+    rows()[number].search
+}
+
 /// Large case `number` of the seed, with the damage done to it.
 pub fn large(seed: u64, number: usize) -> (Call, Option<Damage>) {
     let rng = &mut Rng::new(seed, number as u64);

@@ -2,8 +2,10 @@
 
 pub mod damage;
 pub mod large;
+pub mod large_merges;
 pub mod large_texts;
 pub mod lend;
+pub mod merges;
 pub mod near;
 pub mod pen;
 pub mod reading;

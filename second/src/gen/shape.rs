@@ -10,6 +10,9 @@ pub enum Shape {
     Random,
     /// A spine with one leaf beside each node.
     Caterpillar,
+    /// Spines, and after each of them, from its end up, one leaf beside each of
+    /// its nodes: behind the whole spine there is something on every level.
+    Comb,
     /// Chains from the root down to level 64, one after the other.
     Chains,
     /// All nodes but the root at level 2.
@@ -84,7 +87,18 @@ fn parent_level(rng: &mut Rng, shape: Shape, i: usize, path: &[u32]) -> usize {
         Shape::Caterpillar => path.len() - 1,
         Shape::Chains if path.len() < LEVELS => deepest,
         Shape::Chains | Shape::Flat => 1,
-        Shape::Schedule | Shape::OneLeg | Shape::Alike => unreachable!("{shape:?} has its own maker"),
+        Shape::Comb | Shape::Schedule | Shape::OneLeg | Shape::Alike => {
+            unreachable!("{shape:?} has its own maker")
+        }
+    }
+}
+
+/// The same for a comb of n nodes, which goes down to level 64 where it can.
+fn comb_level(n: usize, i: usize) -> usize {
+    let deepest = (n / 2).clamp(1, LEVELS - 1);
+    match (i - 1) % (2 * deepest) {
+        down if down < deepest => down + 1,
+        up => 2 * deepest - up,
     }
 }
 
@@ -92,7 +106,10 @@ fn parents(rng: &mut Rng, n: usize, shape: Shape) -> Vec<u32> {
     let mut parents = vec![0];
     let mut path = vec![0];
     for i in 1..n {
-        let level = parent_level(rng, shape, i, &path);
+        let level = match shape {
+            Shape::Comb => comb_level(n, i),
+            _ => parent_level(rng, shape, i, &path),
+        };
         parents.push(path[level - 1]);
         path.truncate(level);
         path.push(i as u32);

@@ -1,0 +1,146 @@
+-- What is checked before a search without counts: the tests hold exactly where the plain statements do, and the order of refusals.
+--   Sized I s                      == no length and no number of words gives SIZE, for a stack of s entries
+--   sized-of, sized-yes, sized-no, sized-last   the test for SIZE, in plain words
+--   checked-size, checked-tree, checked-list, checked-all   the reply where each line is the first that applies
+--   Clean I s, Stopped I s         == no refusal comes before the search; one does, whatever the search would reply
+--   clean-or-stopped, clean-reply  one of them holds; the search's own reply stands where nothing comes before it
+--   clean-sound                    what the engine asks holds
+-- Letters: I index, s length of the stack; p parents, t tags, a positive and q negative words; r reply. Assumes nothing.
+use Prim.Native.Nat.{ℕ, _≤_, _<_}
+use mathlib.Core.Path.{_≡_, sym, _∙_}
+use mathlib.Core.Logic.{_⊎_, inl, inr, ⊎-elim}
+use mathlib.Core.List.{List}
+use mathlib.Core.Bool.{Bool, true, false, _&&_}
+use native.Mathlib.Omega.{arith}
+use lib.Dec.{eqb, leb}
+use borrow.Author.Tests.{le-leb, leb-true, eq-eqb, eqb-true}
+use lib.ListN.{length}
+use Rattle.seq.proofs.Laws.Bools.{bool-cases, bool-ext, bool-false, and-left, and-right, and-both}
+use Rattle.seq.proofs.Laws.Numbers.{less-or}
+use Rattle.tree.specs.Rules.{treeBad}
+use Rattle.tree.proofs.Laws.Rules.{lawful-of}
+use Rattle.index.specs.declared.Reply.{Reply}
+use Rattle.index.specs.Index.{Index, nodes, words}
+use Rattle.index.specs.Rules.{listsBad}
+use Rattle.index.specs.Replies.{accepted, SIZE, TREE, LIST, refused, nodesOk, wordsOk}
+use Rattle.index.proofs.Laws.Lists.{words-kept}
+use Rattle.index.proofs.Laws.Replies.{refusing-yes, refusing-no}
+use Rattle.merge.specs.Merge.{depot, mergeLengthsOk, mergeSizeOk, mergeChecked}
+use Rattle.merge.specs.Inner.Going.{Sound}
+use Rattle.merge.specs.Inner.Passes.{job}
+use Rattle.merge.proofs.Laws.Going.{sound-of}
+
+-- ---- SIZE
+pub record Sized (I : Index) (s : ℕ) : Type 0 where
+  pub someNodes : 1 ≤ nodes I
+  pub fewNodes : nodes I ≤ 65536
+  pub somePositive : 1 ≤ I .positive
+  pub fewPositive : I .positive ≤ 8
+  pub noNegative : I .negative ≡ 0
+  pub tagged : length (I .tags) ≡ nodes I
+  pub ended : length (I .ends) ≡ I .positive
+  pub roomy : 64 ≤ s
+
+module _ (I : Index) (s : ℕ) where
+  module _ (e : mergeSizeOk I s ≡ true) where
+    bounds-good : (nodesOk I && wordsOk 0 I) ≡ true
+    unfolding mergeSizeOk
+    bounds-good = and-left _ _ e
+
+    rest-good : (mergeLengthsOk I && leb 64 s) ≡ true
+    unfolding mergeSizeOk
+    rest-good = and-right (nodesOk I && wordsOk 0 I) _ e
+
+    pub sized-of : Sized I s
+    unfolding nodesOk wordsOk mergeLengthsOk
+    sized-of =
+        let many : (leb 1 (nodes I) && leb (nodes I) 65536) ≡ true = and-left _ _ bounds-good in
+        let named : ((leb 1 (I .positive) && leb (I .positive) 8) && (leb (words I) 8 && leb (I .negative) 0)) ≡ true = and-right (nodesOk I) _ bounds-good in
+        let positive : (leb 1 (I .positive) && leb (I .positive) 8) ≡ true = and-left _ _ named in
+        let lengths : (eqb (length (I .tags)) (nodes I) && eqb (length (I .ends)) (words I)) ≡ true = and-left _ _ rest-good in
+        let none : I .negative ≤ 0 = leb-true (I .negative) 0 (and-right (leb (words I) 8) _ (and-right (leb 1 (I .positive) && leb (I .positive) 8) _ named)) in
+        record {
+          someNodes = leb-true 1 (nodes I) (and-left _ _ many);
+          fewNodes = leb-true (nodes I) 65536 (and-right (leb 1 (nodes I)) _ many);
+          somePositive = leb-true 1 (I .positive) (and-left _ _ positive);
+          fewPositive = leb-true (I .positive) 8 (and-right (leb 1 (I .positive)) _ positive);
+          noNegative = omega arith;
+          tagged = eqb-true (length (I .tags)) (nodes I) (and-left _ _ lengths);
+          ended = omega (arith, eqb-true (length (I .ends)) (words I) (and-right (eqb (length (I .tags)) (nodes I)) _ lengths));
+          roomy = leb-true 64 s (and-right (mergeLengthsOk I) _ rest-good);
+        }
+
+  pub sized-yes : Sized I s → mergeSizeOk I s ≡ true
+  unfolding mergeSizeOk nodesOk wordsOk mergeLengthsOk
+  sized-yes z =
+      and-both _ _
+      (and-both _ _
+      (and-both _ _ (le-leb 1 (nodes I) (z .someNodes)) (le-leb (nodes I) 65536 (z .fewNodes)))
+      (and-both _ _
+      (and-both _ _ (le-leb 1 (I .positive) (z .somePositive)) (le-leb (I .positive) 8 (z .fewPositive)))
+      (and-both _ _ (le-leb (words I) 8 (omega (arith, z .noNegative, z .fewPositive))) (le-leb (I .negative) 0 (omega (arith, z .noNegative))))))
+      (and-both _ _
+      (and-both _ _ (eq-eqb (length (I .tags)) (nodes I) (z .tagged)) (eq-eqb (length (I .ends)) (words I) (omega (arith, z .ended, z .noNegative))))
+      (le-leb 64 s (z .roomy)))
+
+  pub sized-no : (Sized I s → ⊥) → mergeSizeOk I s ≡ false
+  sized-no h = bool-false (mergeSizeOk I s) (λ e. h (sized-of e))
+
+  -- Where all else holds, the stack decides.
+  pub sized-last : (b : Bool) → b ≡ leb 64 s → (64 ≤ s → Sized I s) → b ≡ mergeSizeOk I s
+  sized-last b e h = bool-ext b (mergeSizeOk I s) (λ q. sized-yes (h (leb-true 64 s (sym e ∙ q)))) (λ q. e ∙ le-leb 64 s (sized-of q .roomy))
+
+-- ---- the reply where a line of the table is the first that applies
+module _ (I : Index) (s : ℕ) (r : Reply) where
+  pub checked-size : mergeSizeOk I s ≡ false → mergeChecked I s r ≡ refused SIZE 0
+  unfolding mergeChecked
+  checked-size e = rw e
+
+  module _ (z : mergeSizeOk I s ≡ true) where
+    pub checked-tree : treeBad (I .parents) (I .tags) < nodes I → mergeChecked I s r ≡ refused TREE (treeBad (I .parents) (I .tags))
+    unfolding mergeChecked
+    checked-tree l = rw z (refusing-yes TREE _ (nodes I) _ l)
+
+    module _ (t : nodes I ≤ treeBad (I .parents) (I .tags)) where
+      pub checked-list : listsBad (nodes I) (I .ends) (I .occurrences) < words I → mergeChecked I s r ≡ refused LIST (listsBad (nodes I) (I .ends) (I .occurrences))
+      unfolding mergeChecked
+      checked-list l = rw z (refusing-no TREE _ (nodes I) _ t ∙ refusing-yes LIST _ (words I) _ l)
+
+      pub checked-all : words I ≤ listsBad (nodes I) (I .ends) (I .occurrences) → mergeChecked I s r ≡ r
+      unfolding mergeChecked
+      checked-all l = rw z (refusing-no TREE _ (nodes I) _ t ∙ refusing-no LIST _ (words I) _ l)
+
+-- ---- what the checks say of a search
+pub record Clean (I : Index) (s : ℕ) : Type 0 where
+  pub size : mergeSizeOk I s ≡ true
+  pub tree : nodes I ≤ treeBad (I .parents) (I .tags)
+  pub lists : words I ≤ listsBad (nodes I) (I .ends) (I .occurrences)
+
+pub clean-reply : (I : Index) (s : ℕ) (r : Reply) → Clean I s → mergeChecked I s r ≡ r
+clean-reply I s r c = checked-all I s r (c .size) (c .tree) (c .lists)
+
+pub record Stopped (I : Index) (s : ℕ) : Type 0 where
+  pub number : ℕ
+  pub place : ℕ
+  pub refuses : number ≡ accepted → ⊥
+  pub reply : (r : Reply) → mergeChecked I s r ≡ refused number place
+
+pub clean-or-stopped : (I : Index) (s : ℕ) → Clean I s ⊎ Stopped I s
+clean-or-stopped I s =
+    ⊎-elim
+    (λ z. ⊎-elim
+    (λ t. inr (record { number = TREE; place = treeBad (I .parents) (I .tags); refuses = λ q. omega arith; reply = λ r. checked-tree I s r z t }))
+    (λ t. ⊎-elim
+    (λ b. inr (record { number = LIST; place = listsBad (nodes I) (I .ends) (I .occurrences); refuses = λ q. omega arith; reply = λ r. checked-list I s r z t b }))
+    (λ b. inl (record { size = z; tree = t; lists = b }))
+    (less-or (listsBad (nodes I) (I .ends) (I .occurrences)) (words I)))
+    (less-or (treeBad (I .parents) (I .tags)) (nodes I)))
+    (λ z. inr (record { number = SIZE; place = 0; refuses = λ q. omega arith; reply = λ r. checked-size I s r z }))
+    (bool-cases (mergeSizeOk I s))
+
+-- An index that passes the checks is one that the engine takes.
+pub clean-sound : (p t : List ℕ) (a q : ℕ) (ends occ : List ℕ) (s : ℕ) → Clean (depot p t a q ends occ) s → Sound (job p ends occ)
+clean-sound p t a q ends occ s c =
+    let z : Sized (depot p t a q ends occ) s = sized-of (depot p t a q ends occ) s (c .size) in
+    sound-of (job p ends occ) t (lawful-of p t (c .tree)) (z .someNodes) (z .fewNodes) (omega (arith, z .ended, z .somePositive)) (omega (arith, z .ended, z .fewPositive))
+    (words-kept (length p) ends occ (omega (arith, z .ended, c .lists)))

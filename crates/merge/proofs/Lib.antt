@@ -1,0 +1,21 @@
+-- What the proofs of this crate's functions lean on: laws of the engine and of lists, what loops know at each turn, what functions give in the end, and the steps that the walks over the lent stack are made of.
+pub mod Laws
+mod Lists
+mod Rows
+mod Values
+mod Taking
+mod Walking
+mod Marking
+mod Climbing
+mod Judging
+mod Closing
+pub mod Entering
+mod Locals
+mod Lending
+mod Arrays
+pub mod Blanks
+mod Running
+mod Planning
+mod Listing
+mod Passing
+mod Searching

@@ -1,0 +1,93 @@
+// Passes over the lists, on the lent stack. What is read of the stack and stored to it is one entry at a time; all else is on numbers and on entries by value.
+ghost use mathlib.Core.Path.{_≡_};
+ghost use Prim.Native.Nat.{_≤_};
+ghost use lib.ListN.{length};
+ghost use Rattle.merge.specs.Merge.{blanked};
+ghost use Rattle.merge.specs.Inner.Passes.{job, world, RunPre, Ran, BeginPre, Begun, PassPre, Passed};
+use crate::Entry;
+use crate::cursors;
+use crate::entries;
+use crate::steps;
+use crate::steps::State;
+
+// The first m entries become zero; later ones stay.
+pub(crate) fn clear(stack: &mut [Entry], m: usize)
+    requires { ⌜ m ≤ length (now stack) ⌝ }
+    ensures { λ _. ⌜ now (stack .exit) ≡ blanked m (now (stack .entry)) ⌝ }
+{
+    let e = entries::new(0);
+    let mut i: usize = 0;
+    while i < m {
+        stack[i] = e;
+        i += 1;
+    }
+}
+
+// Steps, up to the end of the pass: in each the top and the entry below it are read, and the new top is stored in its place.
+fn run(
+    stack: &mut [Entry],
+    parents: &[u32],
+    ends: &[u32],
+    occurrences: &[u32],
+    cursors: &mut [u32],
+    out: &mut [u32],
+    own: &mut [u32],
+    s: State,
+) -> State
+    requires { ⌜ RunPre (job (now parents) (now ends) (now occurrences)) (world (now stack) (now cursors) (now out) (now own) s) ⌝ }
+    ensures { λ r. ⌜ Ran (job (now (parents .entry)) (now (ends .entry)) (now (occurrences .entry)))
+        (world (now (stack .entry)) (now (cursors .entry)) (now (out .entry)) (now (own .entry)) s)
+        (world (now (stack .exit)) (now (cursors .exit)) (now (out .exit)) (now (own .exit)) r) ⌝ }
+{
+    let mut r = s;
+    while r.on {
+        let n = steps::advance(
+            parents,
+            ends,
+            occurrences,
+            cursors,
+            out,
+            own,
+            r,
+            stack[r.at],
+            stack[r.low],
+        );
+        stack[n.state.at] = n.top;
+        r = n.state;
+    }
+    r
+}
+
+// The first state of a pass: the cursors are set to the ends of the lists.
+fn begin(ends: &[u32], occurrences: &[u32], cursors: &mut [u32], s: State) -> State
+    requires { ⌜ BeginPre (now ends) (now occurrences) (now cursors) s ⌝ }
+    ensures { λ r. ⌜ Begun (now (ends .entry)) (now (occurrences .entry)) (now (cursors .entry)) s r (now (cursors .exit)) ⌝ }
+{
+    if !s.on {
+        return s;
+    }
+    let mut r = s;
+    r.reach = cursors::set(ends, occurrences, cursors);
+    r
+}
+
+// A pass over the lists, from the root's entry on: answers are counted, or written. Nothing is done where there is no step to make.
+pub(crate) fn pass(
+    stack: &mut [Entry],
+    parents: &[u32],
+    ends: &[u32],
+    occurrences: &[u32],
+    out: &mut [u32],
+    own: &mut [u32],
+    s: State,
+    root: usize,
+) -> State
+    requires { ⌜ PassPre (job (now parents) (now ends) (now occurrences)) (now stack) (now out) (now own) s root ⌝ }
+    ensures { λ r. ⌜ Passed (job (now (parents .entry)) (now (ends .entry)) (now (occurrences .entry))) (now (stack .entry)) (now (out .entry)) (now (own .entry)) s r
+        (now (stack .exit)) (now (out .exit)) (now (own .exit)) ⌝ }
+{
+    clear(stack, root);
+    let mut cursors = [0u32; 24];
+    let r = begin(ends, occurrences, &mut cursors, s);
+    run(stack, parents, ends, occurrences, &mut cursors, out, own, r)
+}

@@ -1,0 +1,59 @@
+-- What a search without counts leaves in its stack. Assumes nothing.
+--   stack-left     the stack as the definitions have it is as demanded
+--   stack-unique   two contents that are as demanded are one
+--   size-or        a reply is SIZE or it is not
+-- Letters: I index; ys stack as lent, ys′, ys″ as it is; r reply; i entry.
+use mathlib.Core.Path.{_≡_, sym, ap, _∙_}
+use mathlib.Core.Logic.{_↔_, _⊎_, inl, inr, ⊎-elim}
+use mathlib.Core.List.{List}
+use mathlib.Core.Bool.{true, false}
+use lib.Dec.{eqb}
+use borrow.Author.Tests.{eqb-true, eqb-false}
+use lib.ListN.{length, getD}
+use lib.Seq.{ext-getD}
+use Rattle.seq.proofs.Laws.Bools.{bool-cases, bool-not-both}
+use Rattle.seq.proofs.Laws.Numbers.{less-or}
+use Rattle.index.specs.declared.Reply.{Reply}
+use Rattle.index.specs.Index.{Index}
+use Rattle.index.specs.Replies.{SIZE}
+use Rattle.merge.specs.declared.Entry.{Entry}
+use Rattle.merge.specs.Merge.{mergeSizeOk, blank, blanked, stackAfter}
+use Rattle.merge.proofs.Blanks.{blanked-long, blanked-at, blanked-rest}
+use Rattle.merge_laws.specs.Calls.{MergeSized, StackLeft}
+use Rattle.merge_laws.proofs.Sizes.{merge-sized-of, merge-sized-yes, merge-sized-no}
+
+-- ---- as the definitions have it
+module _ (I : Index) (ys : List Entry) where
+  stack-sized : mergeSizeOk I (length ys) ≡ true → stackAfter I ys ≡ blanked 64 ys
+  unfolding stackAfter
+  stack-sized e = rw e
+
+  stack-kept : mergeSizeOk I (length ys) ≡ false → stackAfter I ys ≡ ys
+  unfolding stackAfter
+  stack-kept e = rw e
+
+module _ (I : Index) (ys : List Entry) (r : Reply) (size : (r .refusal ≡ SIZE) ↔ (MergeSized I (length ys) → ⊥)) where
+  is-sized : (r .refusal ≡ SIZE → ⊥) → mergeSizeOk I (length ys) ≡ true
+  is-sized ne =
+      ⊎-elim (λ q. q) (λ q. absurd (ne (size .1 (λ z. bool-not-both (mergeSizeOk I (length ys)) (merge-sized-yes I (length ys) z) q)))) (bool-cases (mergeSizeOk I (length ys)))
+
+  after : (r .refusal ≡ SIZE → ⊥) → stackAfter I ys ≡ blanked 64 ys
+  after ne = stack-sized I ys (is-sized ne)
+
+  pub stack-left : StackLeft r ys (stackAfter I ys)
+  stack-left = record {
+    untouched = λ q. stack-kept I ys (merge-sized-no I (length ys) (size .0 q));
+    long = λ ne. ap length (after ne) ∙ blanked-long 64 ys (merge-sized-of I (length ys) (is-sized ne) .stacked);
+    blanks = λ ne i l. ap (λ (z : List Entry). getD z i blank) (after ne) ∙ blanked-at 64 ys blank i l;
+    rest = λ ne i l. ap (λ (z : List Entry). getD z i blank) (after ne) ∙ blanked-rest 64 ys blank i l;
+  }
+
+-- ---- no other content
+pub size-or : (r : Reply) → (r .refusal ≡ SIZE) ⊎ (r .refusal ≡ SIZE → ⊥)
+size-or r = ⊎-elim (λ q. inl (eqb-true (r .refusal) SIZE q)) (λ q. inr (eqb-false (r .refusal) SIZE q)) (bool-cases (eqb (r .refusal) SIZE))
+
+pub stack-unique : (r : Reply) (ys ys′ ys″ : List Entry) → StackLeft r ys ys′ → StackLeft r ys ys″ → ys′ ≡ ys″
+stack-unique r ys ys′ ys″ a b =
+    ⊎-elim (λ q. a .untouched q ∙ sym (b .untouched q))
+    (λ q. ext-getD blank ys′ ys″ (a .long q ∙ sym (b .long q)) (λ i _.
+    ⊎-elim (λ l. a .blanks q i l ∙ sym (b .blanks q i l)) (λ l. a .rest q i l ∙ sym (b .rest q i l)) (less-or i 64))) (size-or r)

@@ -1,0 +1,6 @@
+pub mod Unique
+pub mod Sizes
+pub mod Agree
+pub mod Counts
+mod Leaving
+pub mod Calls

@@ -1,0 +1,62 @@
+-- The demands, told of a call of a search without counts: of its reply and of what stands in its buffers afterwards.
+--   MergeSized I s      == no length and no number of words gives SIZE
+--   StackLeft r ys ys′  == what a reply leaves in the stack
+--   MergeReplied …      == what is the same for both searches: when SIZE is given, that COUNT never is, and the stack
+--   MergeElcaDemands, MergeSlcaDemands   == all that is demanded of a call of each search
+-- All else is demanded in the words of the searches with counts (`demands`, specs/Calls), of the same index with right counts.
+-- proofs/Calls shows that each is the same as the contract of the search.
+-- Letters: I index; ys, o, s what was lent as stack, out and own, ys′, o′, s′ what they are at the end; r reply; w work; i entry. Assumes nothing.
+use Prim.Native.Nat.{ℕ, _≤_, _<_}
+use mathlib.Core.Path.{_≡_}
+use mathlib.Core.Logic.{_↔_}
+use mathlib.Core.List.{List}
+use lib.ListN.{length, getD}
+use Rattle.index.specs.declared.Reply.{Reply}
+use Rattle.index.specs.Index.{Index, nodes, words}
+use Rattle.index.specs.Replies.{SIZE, COUNT, refused, room, workAfter}
+use Rattle.merge.specs.declared.Entry.{Entry}
+use Rattle.merge.specs.Merge.{blank}
+use Rattle.demands.specs.Calls.{SlcaDemands, ElcaDemands}
+use Rattle.merge_laws.specs.Agree.{righted}
+
+-- ---- SIZE
+-- The stack has s entries. No negative word is taken.
+pub record MergeSized (I : Index) (s : ℕ) : Type 0 where
+  pub someNodes : 1 ≤ nodes I
+  pub fewNodes : nodes I ≤ 65536
+  pub somePositive : 1 ≤ I .positive
+  pub fewPositive : I .positive ≤ 8
+  pub noNegative : I .negative ≡ 0
+  pub tagged : length (I .tags) ≡ nodes I
+  pub ended : length (I .ends) ≡ words I
+  pub stacked : 64 ≤ s
+
+-- ---- the stack
+-- SIZE touches nothing. Under every other reply the first 64 entries of the stack are blank, and the rest is untouched.
+pub record StackLeft (r : Reply) (ys ys′ : List Entry) : Type 0 where
+  pub untouched : r .refusal ≡ SIZE → ys′ ≡ ys
+  pub long : (r .refusal ≡ SIZE → ⊥) → length ys′ ≡ length ys
+  pub blanks : (r .refusal ≡ SIZE → ⊥) → (i : ℕ) → i < 64 → getD ys′ i blank ≡ blank
+  pub rest : (r .refusal ≡ SIZE → ⊥) → (i : ℕ) → 64 ≤ i → getD ys′ i blank ≡ getD ys i blank
+
+-- ---- both searches
+pub record MergeReplied (I : Index) (ys : List Entry) (r : Reply) (ys′ : List Entry) : Type 0 where
+  -- SIZE exactly if a length or a number of words is wrong; its place and total are 0
+  pub size : (r .refusal ≡ SIZE) ↔ (MergeSized I (length ys) → ⊥)
+  pub sizeZero : r .refusal ≡ SIZE → r ≡ refused SIZE 0
+  pub noCount : r .refusal ≡ COUNT → ⊥
+  pub stack : StackLeft r ys ys′
+
+-- ---- each search
+-- ELCA. SIZE keeps out and own as lent. Under every other reply they are, with the reply, all that is demanded of the search with counts on the same index with
+-- the counts that it must have, whatever work is lent to that search, if it is long enough.
+pub record MergeElcaDemands (I : Index) (ys : List Entry) (o s : List ℕ) (r : Reply) (ys′ : List Entry) (o′ s′ : List ℕ) : Type 0 where
+  pub reply : MergeReplied I ys r ys′
+  pub kept : r .refusal ≡ SIZE → (o′ ≡ o) × (s′ ≡ s)
+  pub search : (r .refusal ≡ SIZE → ⊥) → (w : List ℕ) → room I ≤ length w → ElcaDemands (righted I) w o s r (workAfter 0 (righted I) w) o′ s′
+
+-- SLCA: the same without own.
+pub record MergeSlcaDemands (I : Index) (ys : List Entry) (o : List ℕ) (r : Reply) (ys′ : List Entry) (o′ : List ℕ) : Type 0 where
+  pub reply : MergeReplied I ys r ys′
+  pub kept : r .refusal ≡ SIZE → o′ ≡ o
+  pub search : (r .refusal ≡ SIZE → ⊥) → (w : List ℕ) → room I ≤ length w → SlcaDemands (righted I) w o r (workAfter 0 (righted I) w) o′

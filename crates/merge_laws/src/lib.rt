@@ -1,0 +1,1 @@
+// What the searches without counts promise as a whole: theorems alone.
