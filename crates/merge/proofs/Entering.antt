@@ -3,7 +3,7 @@
 --     roomsOf ls b Γ      room for each of them, and that it dies, in front of Γ: the last local first
 --     allocates           from a proof for any blocks to the allocation
 --     cellsOf ls os b Γ   the locals, the last one first, in front of Γ: the first ones hold what os says, and the others nothing
---     diesOf ls b         that each of them dies, as one assertion: the walk carries one item for it
+--     diesOf ls b         that each of them dies, as one assertion: the walk carries one item for it, and has no need to look inside
 --     enters-with         from a proof for any blocks to the allocation and the parameters. What the walk has besides stands in front
 --     empties-from        what the locals hold from the k-th on is forgotten
 --     frees-all           whatever the locals hold, they are freed
@@ -73,7 +73,7 @@ module _ {M : Type 1} (𝓤 : URA M) (H : Heap 𝓤) (A : Atoms 𝓤) (W : Given
   cellsOf (local τ h ∷ ls) [] b Γ = cellsOf ls [] (λ i. b (suc i)) (‵ (froom τ (b zero) 0) ∷ Γ)
   cellsOf (local τ h ∷ ls) (o ∷ os) b Γ = cellsOf ls os (λ i. b (suc i)) (‵ (slot τ (b zero) o) ∷ Γ)
 
-  abbrev pub diesOf : List Local → (ℕ → ℕ) → SProp 𝓤
+  unfoldable pub diesOf : List Local → (ℕ → ℕ) → SProp 𝓤
   diesOf [] b = emp 𝓤
   diesOf (local τ h ∷ ls) b = sep 𝓤 (H .dies τ (b zero)) (diesOf ls (λ i. b (suc i)))
 
@@ -137,6 +137,7 @@ module _ {M : Type 1} (𝓤 : URA M) (H : Heap 𝓤) (A : Atoms 𝓤) (W : Given
   diesFrom D (local τ h ∷ ls) b = diesFrom (sep 𝓤 D (H .dies τ (b zero))) ls (λ i. b (suc i))
 
   dies-apart : (D : SProp 𝓤) (ls : List Local) (b : ℕ → ℕ) → ent 𝓤 (diesFrom D ls b) (sep 𝓤 D (diesOf ls b))
+  unfolding diesOf
   dies-apart D [] b = via 𝓤 (sep 𝓤 (emp 𝓤) D) (emp∗ 𝓤 D) (comm∗ 𝓤 (emp 𝓤) D)
   dies-apart D (local τ h ∷ ls) b =
       via 𝓤 (sep 𝓤 (sep 𝓤 D (H .dies τ (b zero))) (diesOf ls (λ i. b (suc i)))) (dies-apart (sep 𝓤 D (H .dies τ (b zero))) ls (λ i. b (suc i))) (assoc∗ 𝓤 D (H .dies τ (b zero)) (diesOf ls (λ i. b (suc i))))
@@ -195,6 +196,7 @@ module _ {M : Type 1} (𝓤 : URA M) (H : Heap 𝓤) (A : Atoms 𝓤) (W : Given
       (via 𝓤 (sep 𝓤 (sep 𝓤 S E) X) (assoc′ 𝓤 S E X) (monoL 𝓤 X (monoL 𝓤 E (empties τ l o))))
 
   leaves : (ls : List Local) (os : List Held) (b : ℕ → ℕ) (Γ : List (Item 𝓤)) (g : Goal 𝓤 H) → Seq (Go {0}) W Γ g → Seq (Go {0}) W (cellsOf ls os b (raw (diesOf ls b) ∷ Γ)) (frees (envOf ls b) g)
+  unfolding diesOf
   leaves [] os b Γ g s = record { prf = drop⊢ 𝓤 H A (raw (emp 𝓤)) Γ (aim 𝓤 H g) (s .prf) }
   leaves (local τ h ∷ ls) [] b Γ g s =
       let b′ : ℕ → ℕ = λ n. b (suc n) in

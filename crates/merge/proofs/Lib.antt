@@ -10,7 +10,6 @@ mod Climbing
 mod Judging
 mod Closing
 pub mod Entering
-mod Locals
 mod Lending
 mod Arrays
 pub mod Blanks

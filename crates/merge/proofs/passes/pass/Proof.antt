@@ -45,12 +45,11 @@ use Rattle.merge.specs.declared.steps.State.{State}
 use Rattle.merge.specs.Merge.{blanked}
 use Rattle.merge.specs.Inner.Going.{Job}
 use Rattle.merge.specs.Inner.Passes.{job, world, RunPre, Ran, BeginPre, Begun, PassPre, Passed}
-use Rattle.merge.proofs.Entering.{empty, holds, diesOf, enters-with, frees-all}
+use Rattle.merge.proofs.Entering.{empty, holds, envOf, diesOf, enters-with, frees-all}
 use Rattle.merge.proofs.Lending.{Loan, Look, ref, vals, Owned, Hold, Lent, lends, comes-back, seen, Seen, Looks, looks-twice}
 use Rattle.merge.proofs.Arrays.{Place, loan, Lender, zeros-typed, array-lends, array-back}
 use Rattle.merge.proofs.Searching.{root-fits, begin-pre, run-pre, passed-of}
 use Rattle.merge.proofs.Entry as T
-use Rattle.merge.proofs.Entry.Laws as T′
 use Rattle.merge.proofs.steps.State as S
 use Rattle.merge.proofs.steps.State.Laws as S′
 use Rattle.merge.proofs.passes.clear as clear′
@@ -424,7 +423,7 @@ module _ {M : Type 1} (𝓤 : URA M) (H : Heap 𝓤) (A : Atoms 𝓤) (W : Given
       Λ = 𝓣 .Λ
 
       abbrev En : Env 𝓤 H
-      En = (S′.mir, l 0) ∷ (stackTy, l 1) ∷ ((readTy 1), l 2) ∷ ((readTy 2), l 3) ∷ ((readTy 3), l 4) ∷ ((lentTy (named 4)), l 5) ∷ ((lentTy (named 5)), l 6) ∷ (S′.mir, l 7) ∷ ((tyInt w64), l 8) ∷ (arrayTy, l 9) ∷ (S′.mir, l 10) ∷ (tyUnit, l 11) ∷ (entryTy, l 12) ∷ (entriesTy, l 13) ∷ (arrayRefTy, l 14) ∷ ((lentTy erased), l 15) ∷ (entryTy, l 16) ∷ (entriesTy, l 17) ∷ (arrayRefTy, l 18) ∷ ((lentTy erased), l 19) ∷ (refTy, l 20) ∷ ((lentTy erased), l 21) ∷ (refTy, l 22) ∷ ((lentTy erased), l 23) ∷ []
+      En = envOf 𝓤 H A W locals l
 
       -- the parameters and room for the result, and that the locals die
       abbrev Params : List (Item 𝓤)
