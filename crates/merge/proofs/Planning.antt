@@ -28,7 +28,8 @@ use Rattle.merge.specs.Merge.{depot, mergeSizeOk, mergeChecked}
 use Rattle.merge.specs.Inner.Cursors.{Set}
 use Rattle.merge.specs.Inner.Steps.{moved}
 use Rattle.merge.specs.Inner.Passes.{starting, JudgePre, judged, planAt, firstPlan, Begun, FitsPre, fitting, NextPre, nextPlan}
-use Rattle.merge.proofs.Laws.Checks.{Sized, sized-of, checked-size, Clean, Stopped, clean-reply}
+use Rattle.merge.specs.Plain.{MergeSized}
+use Rattle.merge.proofs.Laws.Checks.{sized-of, sized-words, checked-size, Clean, Stopped, clean-reply}
 
 -- ---- TREE and LIST
 module _ (p t ends occ : List ℕ) (v : ℕ) (e : v ≡ treeBad p t) where
@@ -65,18 +66,15 @@ module _ (p t : List ℕ) (a q : ℕ) (ends occ : List ℕ) (s : ℕ) where
   first-refused b e = ap₂ (λ (r : Reply) (cells : ℕ). planAt r b cells) (sym (checked-size I s (totalled accepted 0) e)) (rw e)
 
   module _ (e : mergeSizeOk I s ≡ true) where
-    abbrev fitted : Sized I s
+    abbrev fitted : MergeSized I s
     fitted = sized-of I s e
 
     pub judge-pre : JudgePre p ends
-    judge-pre = record { nodes = fitted .fewNodes; words = omega (arith, fitted .ended, fitted .fewPositive) }
+    judge-pre = record { nodes = fitted .fewNodes; words = omega (arith, sized-words I s fitted, fitted .fewPositive) }
 
     judged-checked : judged p t ends occ ≡ mergeChecked I s (totalled accepted 0)
     unfolding judged mergeChecked
-    judged-checked = rw e (ap (λ (k : ℕ). refusing TREE (treeBad p t) (length p) (refusing LIST (listsBad (length p) ends occ) k (totalled accepted 0))) as-many)
-      where
-        as-many : length ends ≡ words I
-        as-many = omega (arith, fitted .ended, fitted .noNegative)
+    judged-checked = rw e (ap (λ (k : ℕ). refusing TREE (treeBad p t) (length p) (refusing LIST (listsBad (length p) ends occ) k (totalled accepted 0))) (fitted .ended))
 
     pub first-judged : (b : Bool) (r : Reply) → r ≡ judged p t ends occ → planAt r b 64 ≡ firstPlan I s b
     unfolding firstPlan

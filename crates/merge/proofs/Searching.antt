@@ -26,7 +26,8 @@ use Rattle.merge.specs.Merge.{depot, mergeSizeOk, mergeChecked, blanked,
 use Rattle.merge.specs.Inner.Entries.{fresh}
 use Rattle.merge.specs.Inner.Going.{Job, total}
 use Rattle.merge.specs.Inner.Passes.{job, starting, PassPre, Passed, firstPlan, NextPre, fitting, nextPlan, isListed, Searched}
-use Rattle.merge.proofs.Laws.Checks.{Sized, sized-of, Clean, Stopped, clean-reply, clean-or-stopped, clean-sound}
+use Rattle.merge.specs.Plain.{MergeSized}
+use Rattle.merge.proofs.Laws.Checks.{sized-of, sized-words, Clean, Stopped, clean-reply, clean-or-stopped, clean-sound}
 use Rattle.merge.proofs.Blanks.{blanked-zero, blanked-same}
 use Rattle.merge.proofs.Planning.{first-clean, first-stopped, next-clean, next-stopped}
 use Rattle.merge.proofs.Listing.{total-few, answers-same, total-same, own-same, fits-same}
@@ -78,7 +79,7 @@ module _ (p t : List ℕ) (a q : ℕ) (ends occ : List ℕ) (b : Bool) (ys : Lis
         idle = λ off. absurd (false≢true (sym off));
         opens = λ _. refl;
         sound = λ _. clean-sound p t a q ends occ (length ys) c;
-        wide = λ _. sized-of I (length ys) (c .size) .roomy;
+        wide = λ _. sized-of I (length ys) (c .size) .stacked;
         counts = λ _ _. refl;
         left = λ _ e. absurd (false≢true e);
         out = λ _ e. absurd (false≢true e);
@@ -122,10 +123,10 @@ module _ (p t : List ℕ) (a q : ℕ) (ends occ : List ℕ) (b : Bool) (ys : Lis
     next-pre =
         ⊎-elim
         (λ c.
-        let z : Sized I (length ys) = sized-of I (length ys) (c .size) in
+        let z : MergeSized I (length ys) = sized-of I (length ys) (c .size) in
         record {
           answers = λ _. omega (arith, counted-first c .0, total-few p t a q ends occ b, z .fewNodes);
-          words = λ _. omega (arith, z .ended, z .fewPositive);
+          words = λ _. omega (arith, sized-words I (length ys) z, z .fewPositive);
         })
         (λ z.
         let none : firstPlan I (length ys) b .reply .refusal ≡ accepted → ⊥ = λ e. z .refuses (ap (λ (y : Plan). y .reply .refusal) (sym (first-stopped I (length ys) b z)) ∙ e) in
@@ -139,7 +140,7 @@ module _ (p t : List ℕ) (a q : ℕ) (ends occ : List ℕ) (b : Bool) (ys : Lis
       idle = λ off. cond-false fit off 1 0;
       opens = λ on. cond-true fit on 1 0;
       sound = λ _. clean-sound p t a q ends occ (length ys) c;
-      wide = λ _. omega (arith, one .long, sized-of I (length ys) (c .size) .roomy);
+      wide = λ _. omega (arith, one .long, sized-of I (length ys) (c .size) .stacked);
       counts = λ _ e. absurd (false≢true (sym e));
       left = λ _ _. counted-first c .0;
       out = λ on _. omega (arith, counted-first c .0, ap length (counted-first c .1), leb-true (r₁ .left) (length o) (and-left _ _ on));
@@ -164,14 +165,14 @@ module _ (p t : List ℕ) (a q : ℕ) (ends occ : List ℕ) (b : Bool) (ys : Lis
 
       few-cells : cond (mergeSizeOk I (length ys)) 64 0 ≤ length ys₂
       few-cells =
-          ⊎-elim (λ e. omega (arith, cond-true {A = ℕ} _ e 64 0, long-last, sized-of I (length ys) e .roomy)) (λ e. omega (arith, cond-false {A = ℕ} _ e 64 0))
+          ⊎-elim (λ e. omega (arith, cond-true {A = ℕ} _ e 64 0, long-last, sized-of I (length ys) e .stacked)) (λ e. omega (arith, cond-false {A = ℕ} _ e 64 0))
           (bool-cases (mergeSizeOk I (length ys)))
 
       -- Under every reply but SIZE.
       stack-zeroed : mergeSizeOk I (length ys) ≡ true → blanked 64 ys₂ ≡ stackAfter I ys
       unfolding stackAfter
       stack-zeroed e =
-          blanked-same 64 ys ys₂ (fresh 0) (sized-of I (length ys) e .roomy) long-last (λ i l. two .rest i l ∙ one .rest i l) ∙ sym (cond-true _ e (blanked 64 ys) ys)
+          blanked-same 64 ys ys₂ (fresh 0) (sized-of I (length ys) e .stacked) long-last (λ i l. two .rest i l ∙ one .rest i l) ∙ sym (cond-true _ e (blanked 64 ys) ys)
 
       module _ (z : Stopped I (length ys)) where
         idle-last : (ys₂ ≡ ys) × (o₂ ≡ o) × (w₂ ≡ w)
@@ -201,7 +202,7 @@ module _ (p t : List ℕ) (a q : ℕ) (ends occ : List ℕ) (b : Bool) (ys : Lis
         replied = totalled (cond fit accepted ROOM) (r₁ .left)
 
         ended-all : length ends ≡ a
-        ended-all = sized-of I (length ys) (c .size) .ended
+        ended-all = sized-words I (length ys) (sized-of I (length ys) (c .size))
 
         last : Passed J ys₁ o₁ w₁ (starting fit b true (r₁ .left)) r₂ ys₂ o₂ w₂
         last = subst (λ (z : Plan). Passed J ys₁ o₁ w₁ (z .state) r₂ ys₂ o₂ w₂) (plan-clean c) two
@@ -242,7 +243,7 @@ module _ (p t : List ℕ) (a q : ℕ) (ends occ : List ℕ) (b : Bool) (ys : Lis
       pub cells-fit : nextPlan (firstPlan I (length ys) b) (r₁ .left) (length ends) (length o) (length w) .cells ≤ length ys₂
       cells-fit =
           ⊎-elim
-          (λ c. subst (λ (z : Plan). z .cells ≤ length ys₂) (sym (plan-clean c)) (omega (arith, long-last, sized-of I (length ys) (c .size) .roomy)))
+          (λ c. subst (λ (z : Plan). z .cells ≤ length ys₂) (sym (plan-clean c)) (omega (arith, long-last, sized-of I (length ys) (c .size) .stacked)))
           (λ z. subst (λ (z : Plan). z .cells ≤ length ys₂) (sym (plan-stopped z)) few-cells)
           (clean-or-stopped I (length ys))
 

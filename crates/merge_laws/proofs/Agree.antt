@@ -17,33 +17,48 @@ use Rattle.tree.specs.Rules.{treeBad}
 use Rattle.index.specs.declared.Reply.{Reply}
 use Rattle.index.specs.Index.{Index, nodes, words}
 use Rattle.index.specs.Rules.{listsBad, countsBad}
-use Rattle.index.specs.Replies.{accepted, SIZE, TREE, LIST, COUNT, sizeOk, checked, keptOr}
+use Rattle.index.specs.Replies.{accepted, SIZE, COUNT, sizeOk, checked, keptOr}
+use Rattle.index.specs.Plain.{Sized}
 use Rattle.index.proofs.Laws.Sizes.{sized-of}
-use Rattle.index.proofs.Laws.Replies.{refusing-yes, refusing-no, checked-size, checked-tree, checked-list, checked-count, checked-all}
+use Rattle.index.proofs.Laws.Replies.{checked-size, checked-tree, checked-list, checked-count, checked-all}
 use Rattle.answers.specs.Searches.{isElca, isSlca, outOf, ownOf, answers, roomed, outFits, ownFits, elcaReply, elcaOut, elcaOwn, slcaReply, slcaOut}
 use Rattle.slca.specs.Contracts.{SlcaSearched}
 use Rattle.elca.specs.Contracts.{ElcaSearched}
 use Rattle.merge.specs.declared.Entry.{Entry}
-use Rattle.merge.specs.Merge.{mergeChecked, mergeElcaReply, mergeElcaOut, mergeElcaOwn, mergeSlcaReply, mergeSlcaOut, MergedElca, MergedSlca}
+use Rattle.merge.specs.Merge.{mergeSizeOk, mergeChecked, mergeElcaReply, mergeElcaOut, mergeElcaOwn, mergeSlcaReply, mergeSlcaOut, MergedElca, MergedSlca}
+use Rattle.merge.specs.Plain.{MergeSized}
+use Rattle.merge.proofs.Laws.Checks as Checks
 use Rattle.merge_laws.specs.Agree.{uncounted, AgreesElca, AgreesSlca}
-use Rattle.merge_laws.proofs.Sizes.{merge-sized-yes, merge-sized-less}
 
 -- ---- the check
+-- Sizes that are fine with counts and work are fine without them, where the stack has its 64 entries.
+sized-less : (I : Index) (w s : ℕ) → Sized 0 I w → 64 ≤ s → MergeSized (uncounted I) s
+sized-less I w s z enough = record {
+  someNodes = z .someNodes;
+  fewNodes = z .fewNodes;
+  somePositive = z .somePositive;
+  fewPositive = z .fewPositive;
+  noNegative = omega (arith, z .fewNegative);
+  tagged = z .tagged;
+  ended = z .ended;
+  stacked = enough;
+}
+
 -- Where the first's reply is neither SIZE nor COUNT, and the stack has its 64 entries, the second's is the same.
 checks-agree : (I : Index) (w s : ℕ) → sizeOk 0 I w ≡ true → 64 ≤ s → (b : Reply) → (checked 0 I w b .refusal ≡ COUNT → ⊥) →
     mergeChecked (uncounted I) s b ≡ checked 0 I w b
-unfolding mergeChecked
 checks-agree I w s e enough b other =
-    rw (merge-sized-yes (uncounted I) s (merge-sized-less I w s (sized-of 0 I w e) enough)) (⊎-elim
-    (λ t. refusing-yes TREE _ (nodes I) _ t ∙ sym (checked-tree 0 I w b e t))
-    (λ t. refusing-no TREE _ (nodes I) _ t ∙ ⊎-elim
-    (λ l. refusing-yes LIST _ (words I) _ l ∙ sym (checked-list 0 I w b e t l))
-    (λ l. refusing-no LIST _ (words I) _ l ∙ ⊎-elim
+    let z : mergeSizeOk (uncounted I) s ≡ true = Checks.sized-yes (uncounted I) s (sized-less I w s (sized-of 0 I w e) enough) in
+    ⊎-elim
+    (λ t. Checks.checked-tree (uncounted I) s b z t ∙ sym (checked-tree 0 I w b e t))
+    (λ t. ⊎-elim
+    (λ l. Checks.checked-list (uncounted I) s b z t l ∙ sym (checked-list 0 I w b e t l))
+    (λ l. Checks.checked-all (uncounted I) s b z t l ∙ ⊎-elim
     (λ c. absurd (other (ap (λ (z : Reply). z .refusal) (checked-count 0 I w b e t l c))))
     (λ c. sym (checked-all 0 I w b e t l c))
     (less-or (countsBad (I .parents) (I .ends) (I .occurrences) (I .counts)) (words I * nodes I)))
     (less-or (listsBad (nodes I) (I .ends) (I .occurrences)) (words I)))
-    (less-or (treeBad (I .parents) (I .tags)) (nodes I)))
+    (less-or (treeBad (I .parents) (I .tags)) (nodes I))
 
 -- Any reply but SIZE says that nothing is wrong with the sizes.
 pub no-size-sized : (I : Index) (w : ℕ) (b : Reply) → (checked 0 I w b .refusal ≡ SIZE → ⊥) → sizeOk 0 I w ≡ true

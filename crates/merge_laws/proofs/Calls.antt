@@ -22,8 +22,9 @@ use Rattle.demands.specs.Calls.{Replied, SlcaDemands, ElcaDemands}
 use Rattle.demands.proofs.Calls.{slca-demands, elca-demands}
 use Rattle.demands.proofs.Unique.{slca-demands-unique, elca-demands-unique}
 use Rattle.merge_laws.specs.Agree.{righted}
-use Rattle.merge_laws.specs.Calls.{MergeSized, MergeReplied, MergeElcaDemands, MergeSlcaDemands}
-use Rattle.merge_laws.proofs.Sizes.{merge-sized-no, merge-checked-size, merge-sized-any}
+use Rattle.merge.specs.Plain.{MergeSized}
+use Rattle.merge_laws.specs.Calls.{MergeReplied, MergeElcaDemands, MergeSlcaDemands}
+use Rattle.merge.proofs.Laws.Checks.{sized-no, checked-size, sized-any}
 use Rattle.merge_laws.proofs.Counts.{counts-right, righted-sized, merge-elca-first, merge-slca-first}
 use Rattle.merge_laws.proofs.Leaving.{stack-left, size-or, stack-unique}
 
@@ -41,10 +42,10 @@ kept-size r new o q = kept-refused r new o (λ z. omega (arith, q, z))
 
 module _ (I : Index) (ys : List Entry) (r b : Reply) (e : r ≡ mergeChecked I (length ys) b) where
   other-sized : (r .refusal ≡ SIZE → ⊥) → MergeSized I (length ys)
-  other-sized ne = merge-sized-any I (length ys) b (λ q. ne (ap (λ (x : Reply). x .refusal) e ∙ q))
+  other-sized ne = sized-any I (length ys) b (λ q. ne (ap (λ (x : Reply). x .refusal) e ∙ q))
 
   refused-size : (MergeSized I (length ys) → ⊥) → r ≡ refused SIZE 0
-  refused-size h = e ∙ merge-checked-size I (length ys) b (merge-sized-no I (length ys) h)
+  refused-size h = e ∙ checked-size I (length ys) b (sized-no I (length ys) h)
 
   -- Where nothing is wrong with the sizes, r is a reply of the search with counts, with right ones. F says that there is room for the m answers.
   module _ (F : Type 0) (m : ℕ) (first : MergeSized I (length ys) → Replied 0 (righted I) (length (zeros I)) F m r) where

@@ -37,7 +37,7 @@ use Rattle.elca.specs.Contracts.{ElcaSearched}
 use Rattle.merge.specs.declared.Entry.{Entry}
 use Rattle.merge.specs.Merge.{mergeLengthsOk, mergeSizeOk, mergeChecked, stackAfter, mergeElcaReply, mergeElcaOut, mergeElcaOwn, mergeSlcaReply, mergeSlcaOut, MergedElca, MergedSlca}
 use Rattle.merge_laws.specs.Agree.{recounted, trueCounts, righted, uncounted, AgreesElca, AgreesSlca}
-use Rattle.merge_laws.specs.Calls.{MergeSized}
+use Rattle.merge.specs.Plain.{MergeSized}
 use Rattle.merge_laws.proofs.Agree.{no-size-sized, elca-sized, engines-agree-always, slca-sized, engines-agree-slca-always}
 
 -- ---- counts are not read

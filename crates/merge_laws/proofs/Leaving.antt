@@ -19,8 +19,9 @@ use Rattle.index.specs.Replies.{SIZE}
 use Rattle.merge.specs.declared.Entry.{Entry}
 use Rattle.merge.specs.Merge.{mergeSizeOk, blank, blanked, stackAfter}
 use Rattle.merge.proofs.Blanks.{blanked-long, blanked-at, blanked-rest}
-use Rattle.merge_laws.specs.Calls.{MergeSized, StackLeft}
-use Rattle.merge_laws.proofs.Sizes.{merge-sized-of, merge-sized-yes, merge-sized-no}
+use Rattle.merge.specs.Plain.{MergeSized}
+use Rattle.merge_laws.specs.Calls.{StackLeft}
+use Rattle.merge.proofs.Laws.Checks.{sized-of, sized-yes, sized-no}
 
 -- ---- as the definitions have it
 module _ (I : Index) (ys : List Entry) where
@@ -35,15 +36,15 @@ module _ (I : Index) (ys : List Entry) where
 module _ (I : Index) (ys : List Entry) (r : Reply) (size : (r .refusal ≡ SIZE) ↔ (MergeSized I (length ys) → ⊥)) where
   is-sized : (r .refusal ≡ SIZE → ⊥) → mergeSizeOk I (length ys) ≡ true
   is-sized ne =
-      ⊎-elim (λ q. q) (λ q. absurd (ne (size .1 (λ z. bool-not-both (mergeSizeOk I (length ys)) (merge-sized-yes I (length ys) z) q)))) (bool-cases (mergeSizeOk I (length ys)))
+      ⊎-elim (λ q. q) (λ q. absurd (ne (size .1 (λ z. bool-not-both (mergeSizeOk I (length ys)) (sized-yes I (length ys) z) q)))) (bool-cases (mergeSizeOk I (length ys)))
 
   after : (r .refusal ≡ SIZE → ⊥) → stackAfter I ys ≡ blanked 64 ys
   after ne = stack-sized I ys (is-sized ne)
 
   pub stack-left : StackLeft r ys (stackAfter I ys)
   stack-left = record {
-    untouched = λ q. stack-kept I ys (merge-sized-no I (length ys) (size .0 q));
-    long = λ ne. ap length (after ne) ∙ blanked-long 64 ys (merge-sized-of I (length ys) (is-sized ne) .stacked);
+    untouched = λ q. stack-kept I ys (sized-no I (length ys) (size .0 q));
+    long = λ ne. ap length (after ne) ∙ blanked-long 64 ys (sized-of I (length ys) (is-sized ne) .stacked);
     blanks = λ ne i l. ap (λ (z : List Entry). getD z i blank) (after ne) ∙ blanked-at 64 ys blank i l;
     rest = λ ne i l. ap (λ (z : List Entry). getD z i blank) (after ne) ∙ blanked-rest 64 ys blank i l;
   }

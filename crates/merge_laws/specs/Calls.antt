@@ -1,9 +1,8 @@
 -- The demands, told of a call of a search without counts: of its reply and of what stands in its buffers afterwards.
---   MergeSized I s      == no length and no number of words gives SIZE
 --   StackLeft r ys ys′  == what a reply leaves in the stack
 --   MergeReplied …      == what is the same for both searches: when SIZE is given, that COUNT never is, and the stack
 --   MergeElcaDemands, MergeSlcaDemands   == all that is demanded of a call of each search
--- All else is demanded in the words of the searches with counts (`demands`, specs/Calls), of the same index with right counts.
+-- SIZE in plain words is `MergeSized` (`merge`, specs/Plain). All else is demanded in the words of the searches with counts (`demands`, specs/Calls), of the same index with right counts.
 -- proofs/Calls shows that each is the same as the contract of the search.
 -- Letters: I index; ys, o, s what was lent as stack, out and own, ys′, o′, s′ what they are at the end; r reply; w work; i entry. Assumes nothing.
 use Prim.Native.Nat.{ℕ, _≤_, _<_}
@@ -12,24 +11,13 @@ use mathlib.Core.Logic.{_↔_}
 use mathlib.Core.List.{List}
 use lib.ListN.{length, getD}
 use Rattle.index.specs.declared.Reply.{Reply}
-use Rattle.index.specs.Index.{Index, nodes, words}
+use Rattle.index.specs.Index.{Index}
 use Rattle.index.specs.Replies.{SIZE, COUNT, refused, room, workAfter}
 use Rattle.merge.specs.declared.Entry.{Entry}
 use Rattle.merge.specs.Merge.{blank}
+use Rattle.merge.specs.Plain.{MergeSized}
 use Rattle.demands.specs.Calls.{SlcaDemands, ElcaDemands}
 use Rattle.merge_laws.specs.Agree.{righted}
-
--- ---- SIZE
--- The stack has s entries. No negative word is taken.
-pub record MergeSized (I : Index) (s : ℕ) : Type 0 where
-  pub someNodes : 1 ≤ nodes I
-  pub fewNodes : nodes I ≤ 65536
-  pub somePositive : 1 ≤ I .positive
-  pub fewPositive : I .positive ≤ 8
-  pub noNegative : I .negative ≡ 0
-  pub tagged : length (I .tags) ≡ nodes I
-  pub ended : length (I .ends) ≡ words I
-  pub stacked : 64 ≤ s
 
 -- ---- the stack
 -- SIZE touches nothing. Under every other reply the first 64 entries of the stack are blank, and the rest is untouched.

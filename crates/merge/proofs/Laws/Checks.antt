@@ -1,13 +1,14 @@
 -- What is checked before a search without counts: the tests hold exactly where the plain statements do, and the order of refusals.
---   Sized I s                      == no length and no number of words gives SIZE, for a stack of s entries
---   sized-of, sized-yes, sized-no, sized-last   the test for SIZE, in plain words
+--   sized-of, sized-yes, sized-no, sized-last   the test for SIZE holds exactly where the plain statement does
+--   sized-words                    there are as many ends as positive words
+--   sized-any                      any reply but SIZE says that nothing is wrong with the sizes
 --   checked-size, checked-tree, checked-list, checked-all   the reply where each line is the first that applies
 --   Clean I s, Stopped I s         == no refusal comes before the search; one does, whatever the search would reply
 --   clean-or-stopped, clean-reply  one of them holds; the search's own reply stands where nothing comes before it
 --   clean-sound                    what the engine asks holds
 -- Letters: I index, s length of the stack; p parents, t tags, a positive and q negative words; r reply. Assumes nothing.
 use Prim.Native.Nat.{ℕ, _≤_, _<_}
-use mathlib.Core.Path.{_≡_, sym, _∙_}
+use mathlib.Core.Path.{_≡_, sym, ap, _∙_}
 use mathlib.Core.Logic.{_⊎_, inl, inr, ⊎-elim}
 use mathlib.Core.List.{List}
 use mathlib.Core.Bool.{Bool, true, false, _&&_}
@@ -25,22 +26,13 @@ use Rattle.index.specs.Rules.{listsBad}
 use Rattle.index.specs.Replies.{accepted, SIZE, TREE, LIST, refused, nodesOk, wordsOk}
 use Rattle.index.proofs.Laws.Lists.{words-kept}
 use Rattle.index.proofs.Laws.Replies.{refusing-yes, refusing-no}
+use Rattle.merge.specs.Plain.{MergeSized}
 use Rattle.merge.specs.Merge.{depot, mergeLengthsOk, mergeSizeOk, mergeChecked}
 use Rattle.merge.specs.Inner.Going.{Sound}
 use Rattle.merge.specs.Inner.Passes.{job}
 use Rattle.merge.proofs.Laws.Going.{sound-of}
 
 -- ---- SIZE
-pub record Sized (I : Index) (s : ℕ) : Type 0 where
-  pub someNodes : 1 ≤ nodes I
-  pub fewNodes : nodes I ≤ 65536
-  pub somePositive : 1 ≤ I .positive
-  pub fewPositive : I .positive ≤ 8
-  pub noNegative : I .negative ≡ 0
-  pub tagged : length (I .tags) ≡ nodes I
-  pub ended : length (I .ends) ≡ I .positive
-  pub roomy : 64 ≤ s
-
 module _ (I : Index) (s : ℕ) where
   module _ (e : mergeSizeOk I s ≡ true) where
     bounds-good : (nodesOk I && wordsOk 0 I) ≡ true
@@ -51,7 +43,7 @@ module _ (I : Index) (s : ℕ) where
     unfolding mergeSizeOk
     rest-good = and-right (nodesOk I && wordsOk 0 I) _ e
 
-    pub sized-of : Sized I s
+    pub sized-of : MergeSized I s
     unfolding nodesOk wordsOk mergeLengthsOk
     sized-of =
         let many : (leb 1 (nodes I) && leb (nodes I) 65536) ≡ true = and-left _ _ bounds-good in
@@ -66,11 +58,11 @@ module _ (I : Index) (s : ℕ) where
           fewPositive = leb-true (I .positive) 8 (and-right (leb 1 (I .positive)) _ positive);
           noNegative = omega arith;
           tagged = eqb-true (length (I .tags)) (nodes I) (and-left _ _ lengths);
-          ended = omega (arith, eqb-true (length (I .ends)) (words I) (and-right (eqb (length (I .tags)) (nodes I)) _ lengths));
-          roomy = leb-true 64 s (and-right (mergeLengthsOk I) _ rest-good);
+          ended = eqb-true (length (I .ends)) (words I) (and-right (eqb (length (I .tags)) (nodes I)) _ lengths);
+          stacked = leb-true 64 s (and-right (mergeLengthsOk I) _ rest-good);
         }
 
-  pub sized-yes : Sized I s → mergeSizeOk I s ≡ true
+  pub sized-yes : MergeSized I s → mergeSizeOk I s ≡ true
   unfolding mergeSizeOk nodesOk wordsOk mergeLengthsOk
   sized-yes z =
       and-both _ _
@@ -80,21 +72,27 @@ module _ (I : Index) (s : ℕ) where
       (and-both _ _ (le-leb 1 (I .positive) (z .somePositive)) (le-leb (I .positive) 8 (z .fewPositive)))
       (and-both _ _ (le-leb (words I) 8 (omega (arith, z .noNegative, z .fewPositive))) (le-leb (I .negative) 0 (omega (arith, z .noNegative))))))
       (and-both _ _
-      (and-both _ _ (eq-eqb (length (I .tags)) (nodes I) (z .tagged)) (eq-eqb (length (I .ends)) (words I) (omega (arith, z .ended, z .noNegative))))
-      (le-leb 64 s (z .roomy)))
+      (and-both _ _ (eq-eqb (length (I .tags)) (nodes I) (z .tagged)) (eq-eqb (length (I .ends)) (words I) (z .ended)))
+      (le-leb 64 s (z .stacked)))
 
-  pub sized-no : (Sized I s → ⊥) → mergeSizeOk I s ≡ false
+  pub sized-words : MergeSized I s → length (I .ends) ≡ I .positive
+  sized-words z = omega (arith, z .ended, z .noNegative)
+
+  pub sized-no : (MergeSized I s → ⊥) → mergeSizeOk I s ≡ false
   sized-no h = bool-false (mergeSizeOk I s) (λ e. h (sized-of e))
 
   -- Where all else holds, the stack decides.
-  pub sized-last : (b : Bool) → b ≡ leb 64 s → (64 ≤ s → Sized I s) → b ≡ mergeSizeOk I s
-  sized-last b e h = bool-ext b (mergeSizeOk I s) (λ q. sized-yes (h (leb-true 64 s (sym e ∙ q)))) (λ q. e ∙ le-leb 64 s (sized-of q .roomy))
+  pub sized-last : (b : Bool) → b ≡ leb 64 s → (64 ≤ s → MergeSized I s) → b ≡ mergeSizeOk I s
+  sized-last b e h = bool-ext b (mergeSizeOk I s) (λ q. sized-yes (h (leb-true 64 s (sym e ∙ q)))) (λ q. e ∙ le-leb 64 s (sized-of q .stacked))
 
 -- ---- the reply where a line of the table is the first that applies
 module _ (I : Index) (s : ℕ) (r : Reply) where
   pub checked-size : mergeSizeOk I s ≡ false → mergeChecked I s r ≡ refused SIZE 0
   unfolding mergeChecked
   checked-size e = rw e
+
+  pub sized-any : (mergeChecked I s r .refusal ≡ SIZE → ⊥) → MergeSized I s
+  sized-any other = ⊎-elim (λ e. sized-of I s e) (λ e. absurd (other (ap (λ (x : Reply). x .refusal) (checked-size e)))) (bool-cases (mergeSizeOk I s))
 
   module _ (z : mergeSizeOk I s ≡ true) where
     pub checked-tree : treeBad (I .parents) (I .tags) < nodes I → mergeChecked I s r ≡ refused TREE (treeBad (I .parents) (I .tags))
@@ -141,6 +139,7 @@ clean-or-stopped I s =
 -- An index that passes the checks is one that the engine takes.
 pub clean-sound : (p t : List ℕ) (a q : ℕ) (ends occ : List ℕ) (s : ℕ) → Clean (depot p t a q ends occ) s → Sound (job p ends occ)
 clean-sound p t a q ends occ s c =
-    let z : Sized (depot p t a q ends occ) s = sized-of (depot p t a q ends occ) s (c .size) in
-    sound-of (job p ends occ) t (lawful-of p t (c .tree)) (z .someNodes) (z .fewNodes) (omega (arith, z .ended, z .somePositive)) (omega (arith, z .ended, z .fewPositive))
+    let z : MergeSized (depot p t a q ends occ) s = sized-of (depot p t a q ends occ) s (c .size) in
+    let n : length ends ≡ a = sized-words (depot p t a q ends occ) s z in
+    sound-of (job p ends occ) t (lawful-of p t (c .tree)) (z .someNodes) (z .fewNodes) (omega (arith, n, z .somePositive)) (omega (arith, n, z .fewPositive))
     (words-kept (length p) ends occ (omega (arith, z .ended, c .lists)))

@@ -1,7 +1,7 @@
 -- `merge::plans::size_ok` meets its contract: each test that fails is a part of the plain statement that does not hold. Assumes nothing.
 use mathlib.Core.Path.{refl, sym, _∙_}
 use native.Mathlib.Omega.{arith}
-use Rattle.merge.proofs.Laws.Checks.{sized-no, sized-last}
+use Rattle.merge.proofs.Laws.Checks.{sized-words, sized-no, sized-last}
 use Rattle.merge.proofs.plans.size_ok.Statement.{statement}
 use Rattle.merge.proofs.plans.size_ok.Tie as tie
 
@@ -27,7 +27,7 @@ widen-requires : tie.Need-widen-requires
 widen-requires c κs = tt
 
 returns-7 : tie.Need-returns-7
-returns-7 c = sym (sized-no _ _ (λ s. c .if7 .taken (s .ended ∙ sym (c .before .widen .ensures))))
+returns-7 c = sym (sized-no _ _ (λ s. c .if7 .taken (sized-words _ _ s ∙ sym (c .before .widen .ensures))))
 
 returns-8 : tie.Need-returns-8
 returns-8 c =
@@ -41,8 +41,8 @@ returns-8 c =
       fewPositive = b .before .before .if4 .left;
       noNegative = b .before .if5 .left;
       tagged = b .if6 .left;
-      ended = c .if7 .left ∙ w .widen .ensures;
-      roomy = r;
+      ended = omega (arith, c .if7 .left ∙ w .widen .ensures, b .before .if5 .left);
+      stacked = r;
     })
 
 pub size-ok-spec : {M : Type 1} → statement M
