@@ -73,10 +73,10 @@ module _ (p : List ℕ) (k : ℕ) (o w : List ℕ) (s : State) (e b : Entry) (m 
 
 -- ---- what comes next
 module _ (ends occ c : List ℕ) (s : State) (t : Entry) where
-  pub came-fits : (h : List ℕ) → ArrivePre ends occ c s t → h ≡ comingRow c → SumsPre (t .own) h
+  pub came-fits : (h : List ℕ) → ArrivePre ends occ c s t → h ≡ comingRow c (s .reach) → SumsPre (t .own) h
   came-fits h pre a = rw a (pre .counts)
 
-  module _ (r′ : ℕ) (c′ : List ℕ) (h : List ℕ) (k : Taken ends occ c (s .reach) r′ c′) (a : h ≡ comingRow c) where
+  module _ (r′ : ℕ) (c′ : List ℕ) (h : List ℕ) (k : Taken ends occ c (s .reach) r′ c′) (a : h ≡ comingRow c (s .reach)) where
     pub arrived-met : (x : List ℕ) → t .node ≡ s .reach - 1 → x ≡ sums (t .own) h →
         Arrived ends occ c s t (step (moved s (s .on) (s .at) (s .low) r′ (s .left)) (record { node = s .reach - 1; own = x; covered = t .covered })) c′
     unfolding arrivedStep

@@ -12,4 +12,3 @@ pub mod Writing
 pub mod Asking
 pub mod Stepping
 pub mod Going
-pub mod Checks

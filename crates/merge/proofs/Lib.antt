@@ -5,7 +5,6 @@ mod Rows
 mod Values
 mod Taking
 mod Walking
-mod Marking
 mod Climbing
 mod Judging
 mod Closing

@@ -14,7 +14,7 @@ use Rattle.seq.proofs.Laws.Gather.{listed-le}
 use Rattle.index.specs.Index.{Index, wordList}
 use Rattle.answers.specs.Answers.{slca, elca, ownCount}
 use Rattle.answers.specs.Searches.{isElca, isSlca, outRow, outOf, ownOf, answers, outFits, ownFits}
-use Rattle.merge.specs.Merge.{depot}
+use Rattle.depot.specs.Depot.{depot}
 use Rattle.merge.specs.Inner.Going.{Job, isAnswer, answersOf, total, ownRows}
 use Rattle.merge.specs.Inner.Passes.{job, fitting, isListed}
 use Rattle.merge.proofs.Laws.Going.{length-rows}

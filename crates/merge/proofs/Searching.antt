@@ -1,5 +1,5 @@
 -- From the parts of a search to the whole: two passes, with what is planned before each, and the zeroing of the stack after them.
---   root-fits, begin-pre, run-pre, passed-of   a pass, of Passing
+--   begin-pre, run-pre, passed-of   a pass, of Passing
 --   first-pre, next-pre, second-pre, cells-fit, searched-of   a search
 --   searched-elca, searched-slca   what is promised of the two searches
 -- Letters: J job; I index, b whether the smallest are listed; ys, o, w stack, out and own as lent, with 1 to 3 after the first pass, the second, and the zeroing; r₁, r₂ states; f test. Assumes nothing.
@@ -14,24 +14,28 @@ use borrow.Author.Tests.{leb-true}
 use lib.ListN.{length}
 use Rattle.seq.specs.Memory.{over}
 use Rattle.seq.proofs.Laws.Bools.{bool-cases, bool-not-both, cond-true, cond-false, and-left, and-right, or-cases}
+use Rattle.tree.proofs.Laws.Rules.{lawful-of}
 use Rattle.index.specs.declared.Reply.{Reply}
 use Rattle.index.specs.Index.{Index}
 use Rattle.index.specs.Replies.{accepted, ROOM, refused, totalled, keptOr}
+use Rattle.index.proofs.Laws.Lists.{words-kept}
 use Rattle.index.proofs.Laws.Replies.{kept-accepted, kept-refused}
 use Rattle.answers.specs.Searches.{isElca, isSlca, outOf, ownOf, roomed, outFits, ownFits}
 use Rattle.merge.specs.declared.Entry.{Entry}
 use Rattle.merge.specs.declared.plans.Plan.{Plan}
 use Rattle.merge.specs.declared.steps.State.{State}
-use Rattle.merge.specs.Merge.{depot, mergeSizeOk, mergeChecked, blanked, stackAfter, mergeElcaReply, mergeElcaOut, mergeElcaOwn, mergeSlcaReply, mergeSlcaOut, MergedElca, MergedSlca}
+use Rattle.depot.specs.Depot.{depot, depotSizeOk, depotChecked}
+use Rattle.merge.specs.Merge.{blanked, stackAfter, mergeElcaReply, mergeElcaOut, mergeElcaOwn, mergeSlcaReply, mergeSlcaOut, MergedElca, MergedSlca}
 use Rattle.merge.specs.Inner.Entries.{fresh}
-use Rattle.merge.specs.Inner.Going.{Job, total}
+use Rattle.merge.specs.Inner.Going.{Job, total, Sound}
 use Rattle.merge.specs.Inner.Passes.{job, starting, PassPre, Passed, firstPlan, NextPre, fitting, nextPlan, isListed, Searched}
-use Rattle.merge.specs.Plain.{MergeSized}
-use Rattle.merge.proofs.Laws.Checks.{sized-of, sized-words, Clean, Stopped, clean-reply, clean-or-stopped, clean-sound}
+use Rattle.depot.specs.Plain.{DepotSized}
+use Rattle.depot.proofs.Laws.Checks.{sized-of, sized-words, Clean, Stopped, clean-reply, clean-or-stopped}
+use Rattle.merge.proofs.Laws.Going.{sound-of}
 use Rattle.merge.proofs.Blanks.{blanked-zero, blanked-same}
 use Rattle.merge.proofs.Planning.{first-clean, first-stopped, next-clean, next-stopped}
 use Rattle.merge.proofs.Listing.{total-few, answers-same, total-same, own-same, fits-same}
-pub use Rattle.merge.proofs.Passing.{root-fits, begin-pre, run-pre, passed-of}
+pub use Rattle.merge.proofs.Passing.{begin-pre, run-pre, passed-of}
 
 -- ---- tests
 -- A choice between the same.
@@ -45,12 +49,18 @@ and-true true = refl
 and-true false = refl
 
 -- ---- a search
+-- An index that passes the checks is one that the engine takes.
+clean-sound : (p t : List ℕ) (a q : ℕ) (ends occ : List ℕ) (s : ℕ) → Clean (depot p t a q ends occ) s → Sound (job p ends occ)
+clean-sound p t a q ends occ s c =
+    let z : DepotSized (depot p t a q ends occ) s = sized-of (depot p t a q ends occ) s (c .size) in
+    let n : length ends ≡ a = sized-words (depot p t a q ends occ) s z in
+    sound-of (job p ends occ) t (lawful-of p t (c .tree)) (z .someNodes) (z .fewNodes) (omega (arith, n, z .somePositive)) (omega (arith, n, z .fewPositive))
+    (words-kept (length p) ends occ (omega (arith, z .ended, c .lists)))
+
 -- Where no pass is made, nothing is asked.
-idle-pre : (J : Job) (ys : List Entry) (o w : List ℕ) (b fill : Bool) (m : ℕ) → PassPre J ys o w (starting false b fill m) 0
+idle-pre : (J : Job) (ys : List Entry) (o w : List ℕ) (b fill : Bool) (m : ℕ) → PassPre J ys o w (starting false b fill m)
 idle-pre J ys o w b fill m = record {
   state = refl;
-  idle = λ _. refl;
-  opens = λ on. absurd (false≢true on);
   sound = λ on. absurd (false≢true on);
   wide = λ on. absurd (false≢true on);
   counts = λ on. absurd (false≢true on);
@@ -70,14 +80,12 @@ module _ (p t : List ℕ) (a q : ℕ) (ends occ : List ℕ) (b : Bool) (ys : Lis
   abbrev f : ℕ → Bool
   f = isListed I b
 
-  pub first-pre : PassPre J ys o w (firstPlan I (length ys) b .state) (firstPlan I (length ys) b .root)
+  pub first-pre : PassPre J ys o w (firstPlan I (length ys) b .state)
   first-pre =
       ⊎-elim
-      (λ c. subst (λ (z : Plan). PassPre J ys o w (z .state) (z .root)) (sym (first-clean I (length ys) b c))
+      (λ c. subst (λ (z : Plan). PassPre J ys o w (z .state)) (sym (first-clean I (length ys) b c))
       (record {
         state = refl;
-        idle = λ off. absurd (false≢true (sym off));
-        opens = λ _. refl;
         sound = λ _. clean-sound p t a q ends occ (length ys) c;
         wide = λ _. sized-of I (length ys) (c .size) .stacked;
         counts = λ _ _. refl;
@@ -85,7 +93,7 @@ module _ (p t : List ℕ) (a q : ℕ) (ends occ : List ℕ) (b : Bool) (ys : Lis
         out = λ _ e. absurd (false≢true e);
         own = λ _ e. absurd (false≢true e);
       }))
-      (λ z. subst (λ (z : Plan). PassPre J ys o w (z .state) (z .root)) (sym (first-stopped I (length ys) b z)) (idle-pre J ys o w b false 0))
+      (λ z. subst (λ (z : Plan). PassPre J ys o w (z .state)) (sym (first-stopped I (length ys) b z)) (idle-pre J ys o w b false 0))
       (clean-or-stopped I (length ys))
 
   module _ (r₁ : State) (ys₁ : List Entry) (o₁ w₁ : List ℕ) (one : Passed J ys o w (firstPlan I (length ys) b .state) r₁ ys₁ o₁ w₁) where
@@ -99,7 +107,6 @@ module _ (p t : List ℕ) (a q : ℕ) (ends occ : List ℕ) (b : Bool) (ys : Lis
     plan-clean : Clean I (length ys) → plan ≡ record {
       reply = totalled (cond fit accepted ROOM) (r₁ .left);
       state = starting fit b true (r₁ .left);
-      root = cond fit 1 0;
       cells = 64;
     }
     plan-clean c = next-clean I (length ys) b (r₁ .left) (length ends) (length o) (length w) c
@@ -107,8 +114,7 @@ module _ (p t : List ℕ) (a q : ℕ) (ends occ : List ℕ) (b : Bool) (ys : Lis
     plan-stopped : (z : Stopped I (length ys)) → plan ≡ record {
       reply = refused (z .number) (z .place);
       state = starting false b false 0;
-      root = 0;
-      cells = cond (mergeSizeOk I (length ys)) 64 0;
+      cells = cond (depotSizeOk I (length ys)) 64 0;
     }
     plan-stopped z = next-stopped I (length ys) b (r₁ .left) (length ends) (length o) (length w) z
 
@@ -123,7 +129,7 @@ module _ (p t : List ℕ) (a q : ℕ) (ends occ : List ℕ) (b : Bool) (ys : Lis
     next-pre =
         ⊎-elim
         (λ c.
-        let z : MergeSized I (length ys) = sized-of I (length ys) (c .size) in
+        let z : DepotSized I (length ys) = sized-of I (length ys) (c .size) in
         record {
           answers = λ _. omega (arith, counted-first c .0, total-few p t a q ends occ b, z .fewNodes);
           words = λ _. omega (arith, sized-words I (length ys) z, z .fewPositive);
@@ -134,11 +140,9 @@ module _ (p t : List ℕ) (a q : ℕ) (ends occ : List ℕ) (b : Bool) (ys : Lis
         (clean-or-stopped I (length ys))
 
     -- The second pass writes where there is room.
-    writes-pre : Clean I (length ys) → PassPre J ys₁ o₁ w₁ (starting fit b true (r₁ .left)) (cond fit 1 0)
+    writes-pre : Clean I (length ys) → PassPre J ys₁ o₁ w₁ (starting fit b true (r₁ .left))
     writes-pre c = record {
       state = refl;
-      idle = λ off. cond-false fit off 1 0;
-      opens = λ on. cond-true fit on 1 0;
       sound = λ _. clean-sound p t a q ends occ (length ys) c;
       wide = λ _. omega (arith, one .long, sized-of I (length ys) (c .size) .stacked);
       counts = λ _ e. absurd (false≢true (sym e));
@@ -151,11 +155,11 @@ module _ (p t : List ℕ) (a q : ℕ) (ends occ : List ℕ) (b : Bool) (ys : Lis
         own-fits on e =
             ⊎-elim (λ z. absurd (bool-not-both b z e)) (λ z. z) (or-cases b (leb (r₁ .left * length ends) (length w)) (and-right (leb (r₁ .left) (length o)) _ on))
 
-    pub second-pre : PassPre J ys₁ o₁ w₁ (nextPlan (firstPlan I (length ys) b) (r₁ .left) (length ends) (length o) (length w) .state) (nextPlan (firstPlan I (length ys) b) (r₁ .left) (length ends) (length o) (length w) .root)
+    pub second-pre : PassPre J ys₁ o₁ w₁ (nextPlan (firstPlan I (length ys) b) (r₁ .left) (length ends) (length o) (length w) .state)
     second-pre =
         ⊎-elim
-        (λ c. subst (λ (z : Plan). PassPre J ys₁ o₁ w₁ (z .state) (z .root)) (sym (plan-clean c)) (writes-pre c))
-        (λ z. subst (λ (z : Plan). PassPre J ys₁ o₁ w₁ (z .state) (z .root)) (sym (plan-stopped z)) (idle-pre J ys₁ o₁ w₁ b false 0))
+        (λ c. subst (λ (z : Plan). PassPre J ys₁ o₁ w₁ (z .state)) (sym (plan-clean c)) (writes-pre c))
+        (λ z. subst (λ (z : Plan). PassPre J ys₁ o₁ w₁ (z .state)) (sym (plan-stopped z)) (idle-pre J ys₁ o₁ w₁ b false 0))
         (clean-or-stopped I (length ys))
 
     module _ (r₂ : State) (ys₂ : List Entry) (o₂ w₂ : List ℕ) (two : Passed J ys₁ o₁ w₁ (nextPlan (firstPlan I (length ys) b) (r₁ .left) (length ends) (length o) (length w) .state) r₂ ys₂ o₂ w₂) where
@@ -163,13 +167,13 @@ module _ (p t : List ℕ) (a q : ℕ) (ends occ : List ℕ) (b : Bool) (ys : Lis
       long-last : length ys₂ ≡ length ys
       long-last = two .long ∙ one .long
 
-      few-cells : cond (mergeSizeOk I (length ys)) 64 0 ≤ length ys₂
+      few-cells : cond (depotSizeOk I (length ys)) 64 0 ≤ length ys₂
       few-cells =
           ⊎-elim (λ e. omega (arith, cond-true {A = ℕ} _ e 64 0, long-last, sized-of I (length ys) e .stacked)) (λ e. omega (arith, cond-false {A = ℕ} _ e 64 0))
-          (bool-cases (mergeSizeOk I (length ys)))
+          (bool-cases (depotSizeOk I (length ys)))
 
       -- Under every reply but SIZE.
-      stack-zeroed : mergeSizeOk I (length ys) ≡ true → blanked 64 ys₂ ≡ stackAfter I ys
+      stack-zeroed : depotSizeOk I (length ys) ≡ true → blanked 64 ys₂ ≡ stackAfter I ys
       unfolding stackAfter
       stack-zeroed e =
           blanked-same 64 ys ys₂ (fresh 0) (sized-of I (length ys) e .stacked) long-last (λ i l. two .rest i l ∙ one .rest i l) ∙ sym (cond-true _ e (blanked 64 ys) ys)
@@ -182,14 +186,14 @@ module _ (p t : List ℕ) (a q : ℕ) (ends occ : List ℕ) (b : Bool) (ys : Lis
             in
             (y .0 ∙ idle-first z .0, y .1 ∙ idle-first z .1, y .2 ∙ idle-first z .2)
 
-        stack-stopped : blanked (cond (mergeSizeOk I (length ys)) 64 0) ys₂ ≡ stackAfter I ys
+        stack-stopped : blanked (cond (depotSizeOk I (length ys)) 64 0) ys₂ ≡ stackAfter I ys
         unfolding stackAfter
         stack-stopped =
             ⊎-elim (λ e. ap (λ (m : ℕ). blanked m ys₂) (cond-true _ e 64 0) ∙ stack-zeroed e)
             (λ e. ap (λ (m : ℕ). blanked m ys₂) (cond-false _ e 64 0) ∙ blanked-zero ys₂ ∙ idle-last .0 ∙ sym (cond-false _ e (blanked 64 ys) ys))
-            (bool-cases (mergeSizeOk I (length ys)))
+            (bool-cases (depotSizeOk I (length ys)))
 
-        searched-stopped : (ys₃ : List Entry) → ys₃ ≡ blanked (cond (mergeSizeOk I (length ys)) 64 0) ys₂ → Searched I b ys o w (refused (z .number) (z .place)) ys₃ o₂ w₂
+        searched-stopped : (ys₃ : List Entry) → ys₃ ≡ blanked (cond (depotSizeOk I (length ys)) 64 0) ys₂ → Searched I b ys o w (refused (z .number) (z .place)) ys₃ o₂ w₂
         searched-stopped ys₃ e = record {
           reply = sym (z .reply _);
           stack = e ∙ stack-stopped;
@@ -213,7 +217,7 @@ module _ (p t : List ℕ) (a q : ℕ) (ends occ : List ℕ) (b : Bool) (ys : Lis
         refuses : fit ≡ false → replied .refusal ≡ accepted → ⊥
         refuses off e = omega (arith, cond-false fit off accepted ROOM)
 
-        reply-clean : replied ≡ mergeChecked I (length ys) (roomed I f (outFits I f o && (b || ownFits I f w)))
+        reply-clean : replied ≡ depotChecked I (length ys) (roomed I f (outFits I f o && (b || ownFits I f w)))
         unfolding roomed
         reply-clean =
             ap₂ (λ (x : Bool) (m : ℕ). totalled (cond x accepted ROOM) m) (fits-same p t a q ends occ ended-all b (r₁ .left) (counted-first c .0) o w)
@@ -269,5 +273,5 @@ searched-elca I ys o w r ys′ o′ w′ d = record {
 pub searched-slca : (I : Index) (ys : List Entry) (o w : List ℕ) (r : Reply) (ys′ : List Entry) (o′ w′ : List ℕ) → Searched I true ys o w r ys′ o′ w′ → MergedSlca I ys o r ys′ o′
 unfolding mergeSlcaReply mergeSlcaOut
 searched-slca I ys o w r ys′ o′ w′ d =
-    let same : r ≡ mergeSlcaReply I ys o = d .reply ∙ ap (λ (x : Bool). mergeChecked I (length ys) (roomed I (isSlca I) x)) (and-true (outFits I (isSlca I) o)) in
+    let same : r ≡ mergeSlcaReply I ys o = d .reply ∙ ap (λ (x : Bool). depotChecked I (length ys) (roomed I (isSlca I) x)) (and-true (outFits I (isSlca I) o)) in
     record { reply = same; stack = d .stack; out = d .out ∙ ap (λ (z : Reply). keptOr z (outOf I (isSlca I)) o) same }

@@ -32,9 +32,9 @@ pub same-no : (a b : ℕ) → (a ≡ b → ⊥) → _≡_ {A = ℕ} 0 (cond (eqb
 same-no a b ne = rw (ne-eqb a b ne)
 
 -- A row of 8 that has been filled with what comes next.
-pub coming-end : (c d w : List ℕ) (j : ℕ) → Filling (coming c) d w j → length d ≡ 8 → 8 ≤ j → w ≡ comingRow c
+pub coming-end : (c : List ℕ) (r : ℕ) (d w : List ℕ) (j : ℕ) → Filling (coming c r) d w j → length d ≡ 8 → 8 ≤ j → w ≡ comingRow c r
 unfolding comingRow
-coming-end c d w j s e l = filled-row (coming c) d w j s e l
+coming-end c r d w j s e l = filled-row (coming c r) d w j s e l
 
 module _ (occ c : List ℕ) (j f r : ℕ) where
   pub word-left : (head c j ≡ r → ⊥) → WordTaken occ c j f r (head c j) c

@@ -16,8 +16,8 @@ use lib.ListN.{length, getD, set, length-set}
 use lib.Seq.{getD-set-same, getD-set-other}
 use Rattle.seq.proofs.Laws.Bools.{bool-cases, cond-true, cond-false}
 use Rattle.index.specs.Index.{start}
-use Rattle.merge.specs.Inner.Cursors.{head, upTo, coming, lastLeft, stands, headAfter, upToAfter, Reached, Highest, CursorsPre, SetPre}
-use Rattle.merge.specs.Inner.Words.{LastPre, TakeWordPre, WordTaken, WordsTaken, WordsSet}
+use Rattle.merge.specs.Inner.Cursors.{head, upTo, lastLeft, stands, headAfter, upToAfter, Reached, Highest, CursorsPre, Taken, SetPre, Set}
+use Rattle.merge.specs.Inner.Words.{LastPre, TakeWordPre, WordTaken}
 
 -- ---- the highest
 pub highest-none : (f : ℕ → ℕ) → Highest 0 f 0
@@ -90,7 +90,6 @@ pub record Walking (fh fu : ℕ → ℕ) (ends c w : List ℕ) (far f j : ℕ) :
   pub upTos : (i : ℕ) → i < j → upTo w i ≡ fu i
   pub restHeads : (i : ℕ) → j ≤ i → i < 8 → head w i ≡ head c i
   pub restUpTos : (i : ℕ) → j ≤ i → i < 8 → upTo w i ≡ upTo c i
-  pub comes : (i : ℕ) → i < 8 → coming w i ≡ coming c i
   pub highest : Highest j fh far
 
 pub walking-start : (fh fu : ℕ → ℕ) (ends c : List ℕ) → Walking fh fu ends c c 0 0 0
@@ -103,7 +102,6 @@ walking-start fh fu ends c = record {
   upTos = below-none _;
   restHeads = λ i a b. refl;
   restUpTos = λ i a b. refl;
-  comes = λ i l. refl;
   highest = highest-none fh;
 }
 
@@ -122,7 +120,6 @@ module _ (fh fu : ℕ → ℕ) (ends c w : List ℕ) (far f j : ℕ) (words : le
     upTos = below-more _ j (λ i h. other (8 + i) (λ (z : 8 + i ≡ j). omega arith) (λ (z : 8 + i ≡ 8 + j). omega arith) ∙ t .upTos i h) (s .upToIs);
     restHeads = λ i a b. other i (λ (z : i ≡ j). omega arith) (λ (z : i ≡ 8 + j). omega arith) ∙ t .restHeads i (omega arith) b;
     restUpTos = λ i a b. other (8 + i) (λ (z : 8 + i ≡ j). omega arith) (λ (z : 8 + i ≡ 8 + j). omega arith) ∙ t .restUpTos i (omega arith) b;
-    comes = λ i b. other (16 + i) (λ (z : 16 + i ≡ j). omega arith) (λ (z : 16 + i ≡ 8 + j). omega arith) ∙ t .comes i b;
     highest = hi;
   }
     where
@@ -169,14 +166,13 @@ module _ (ends occ c : List ℕ) (r : ℕ) (w : List ℕ) (far f j : ℕ) (pre :
           ends-at : upToAfter c r j ≡ upToAfter w r j
           ends-at = rw (headNow, upToNow)
 
-  pub take-end : length ends ≤ j → WordsTaken ends occ c r far w
+  pub take-end : length ends ≤ j → Taken ends occ c r far w
   take-end l = record {
     long = t .long;
     heads = λ i h. t .heads i (omega arith);
     upTos = λ i h. t .upTos i (omega arith);
     reach = walking-highest _ _ ends c w far f j (pre .words) t l;
     others = λ i a b. (t .restHeads i (omega (arith, t .within)) b, t .restUpTos i (omega (arith, t .within)) b);
-    comes = t .comes;
   }
 
 -- ---- setting
@@ -202,12 +198,11 @@ module _ (ends occ c w : List ℕ) (far f j : ℕ) (pre : SetPre ends occ c)
           walking-step _ _ ends c w far f j (pre .words) t _ far′ l
           (wrote-ext j h _ _ _ w _ _ (sym set-head) refl refl (wrote-set j h (getD ends j 0) w (omega (arith, t .long, pre .long, pre .words)))) hi
 
-  pub set-end : length ends ≤ j → WordsSet ends occ c far w
+  pub set-end : length ends ≤ j → Set ends occ c far w
   set-end l = record {
     long = t .long;
     heads = λ i h. t .heads i (omega arith);
     upTos = λ i h. t .upTos i (omega arith);
     reach = walking-highest _ _ ends c w far f j (pre .words) t l;
     others = λ i a b. (t .restHeads i (omega (arith, t .within)) b, t .restUpTos i (omega (arith, t .within)) b);
-    comes = t .comes;
   }

@@ -1,11 +1,11 @@
-// The cursors: what is left of the words' lists, which are merged from their ends. Three numbers for each word there may be: entry j is one more than the last
-// occurrence that is left of word j, or 0 where none is; entry 8 + j is where what is left ends; entry 16 + j is how often the word occurs at the node that comes next.
+// The cursors: what is left of the words' lists, which are merged from their ends. Two numbers for each word there may be: entry j is one more than the last
+// occurrence that is left of word j, or 0 where none is; entry 8 + j is where what is left ends.
 ghost use mathlib.Core.Path.{_≡_};
 ghost use lib.ListN.{length};
 ghost use mathlib.Core.Bool.{cond};
 ghost use lib.Dec.{eqb};
 ghost use Rattle.merge.specs.Inner.Cursors.{comingRow, lastLeft, CursorsPre, Taken, SetPre, Set};
-ghost use Rattle.merge.specs.Inner.Words.{LastPre, TakeWordPre, WordTaken, WordsTaken, MarkPre, Marked, WordsSet};
+ghost use Rattle.merge.specs.Inner.Words.{LastPre, TakeWordPre, WordTaken};
 
 // One more than the last of the occurrences from `from` up to `to`, or 0 where there is none.
 fn last_left(occurrences: &[u32], from: u32, to: u32) -> u32
@@ -47,10 +47,10 @@ fn take_word(occurrences: &[u32], cursors: &mut [u32], j: usize, from: u32, reac
     next
 }
 
-// Takes every word's occurrence at the node that comes next. The highest of what is left.
-fn take_words(ends: &[u32], occurrences: &[u32], cursors: &mut [u32], reach: u32) -> u32
+// Takes the node that comes next off the lists. One more than the node that comes after it, or 0 where none is left.
+pub(crate) fn take(ends: &[u32], occurrences: &[u32], cursors: &mut [u32], reach: u32) -> u32
     requires { ⌜ CursorsPre (now ends) (now occurrences) (now cursors) reach ⌝ }
-    ensures { λ r. ⌜ WordsTaken (now (ends .entry)) (now (occurrences .entry)) (now (cursors .entry)) reach r (now (cursors .exit)) ⌝ }
+    ensures { λ r. ⌜ Taken (now (ends .entry)) (now (occurrences .entry)) (now (cursors .entry)) reach r (now (cursors .exit)) ⌝ }
 {
     let mut far: u32 = 0;
     let mut from: u32 = 0;
@@ -66,49 +66,24 @@ fn take_words(ends: &[u32], occurrences: &[u32], cursors: &mut [u32], reach: u32
     far
 }
 
-// Writes for each word whether it occurs at the node that comes next.
-fn mark(cursors: &mut [u32], k: usize, reach: u32)
-    requires { ⌜ MarkPre k (now cursors) ⌝ }
-    ensures { λ _. ⌜ Marked k (now (cursors .entry)) reach (now (cursors .exit)) ⌝ }
-{
-    let mut j: usize = 0;
-    while j < k {
-        let at = 16 + j;
-        let head = cursors[j];
-        cursors[at] = same(head, reach);
-        j += 1;
-    }
-}
-
-// Takes the node that comes next off the lists. One more than the node that comes after it, or 0 where none is left.
-pub(crate) fn take(ends: &[u32], occurrences: &[u32], cursors: &mut [u32], reach: u32) -> u32
-    requires { ⌜ CursorsPre (now ends) (now occurrences) (now cursors) reach ⌝ }
-    ensures { λ r. ⌜ Taken (now (ends .entry)) (now (occurrences .entry)) (now (cursors .entry)) reach r (now (cursors .exit)) ⌝ }
-{
-    let far = take_words(ends, occurrences, &mut *cursors, reach);
-    mark(cursors, ends.len(), far);
-    far
-}
-
 // How often each word occurs at the node that comes next.
-pub(crate) fn coming(cursors: &[u32]) -> [u32; 8]
-    requires { ⌜ length (now cursors) ≡ 24 ⌝ }
-    ensures { λ r. ⌜ r ≡ comingRow (now (cursors .entry)) ⌝ }
+pub(crate) fn coming(cursors: &[u32], reach: u32) -> [u32; 8]
+    requires { ⌜ length (now cursors) ≡ 16 ⌝ }
+    ensures { λ r. ⌜ r ≡ comingRow (now (cursors .entry)) reach ⌝ }
 {
     let mut r = [0u32; 8];
     let mut j: usize = 0;
     while j < 8 {
-        let at = 16 + j;
-        r[j] = cursors[at];
+        r[j] = same(cursors[j], reach);
         j += 1;
     }
     r
 }
 
-// The whole lists are left. The highest of their last occurrences, one more than it.
-fn set_words(ends: &[u32], occurrences: &[u32], cursors: &mut [u32]) -> u32
+// Sets the cursors to the ends of the lists. One more than the node that comes first, or 0 where there is no occurrence.
+pub(crate) fn set(ends: &[u32], occurrences: &[u32], cursors: &mut [u32]) -> u32
     requires { ⌜ SetPre (now ends) (now occurrences) (now cursors) ⌝ }
-    ensures { λ r. ⌜ WordsSet (now (ends .entry)) (now (occurrences .entry)) (now (cursors .entry)) r (now (cursors .exit)) ⌝ }
+    ensures { λ r. ⌜ Set (now (ends .entry)) (now (occurrences .entry)) (now (cursors .entry)) r (now (cursors .exit)) ⌝ }
 {
     let mut far: u32 = 0;
     let mut from: u32 = 0;
@@ -125,15 +100,5 @@ fn set_words(ends: &[u32], occurrences: &[u32], cursors: &mut [u32]) -> u32
         from = to;
         j += 1;
     }
-    far
-}
-
-// Sets the cursors to the ends of the lists. One more than the node that comes first, or 0 where there is no occurrence.
-pub(crate) fn set(ends: &[u32], occurrences: &[u32], cursors: &mut [u32]) -> u32
-    requires { ⌜ SetPre (now ends) (now occurrences) (now cursors) ⌝ }
-    ensures { λ r. ⌜ Set (now (ends .entry)) (now (occurrences .entry)) (now (cursors .entry)) r (now (cursors .exit)) ⌝ }
-{
-    let far = set_words(ends, occurrences, &mut *cursors);
-    mark(cursors, ends.len(), far);
     far
 }

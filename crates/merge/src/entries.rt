@@ -34,17 +34,14 @@ pub(crate) fn each_some(k: usize, a: [u32; 8]) -> bool
     requires { ⌜ k ≤ 8 ⌝ }
     ensures { λ r. ⌜ r ≡ eachSome k a ⌝ }
 {
-    let mut r = true;
     let mut j: usize = 0;
-    while j < 8 {
+    while j < k {
         if a[j] == 0 {
-            if j < k {
-                r = false;
-            }
+            return false;
         }
         j += 1;
     }
-    r
+    true
 }
 
 // Whether a node that is closed with this entry is an answer; `full` says whether it is full.

@@ -1,7 +1,8 @@
 // ELCA and SLCA without counts (02, Q-3; source document 001's older method): the occurrence lists are merged, from the last occurrence to the first, over a lent stack of open nodes.
 // Nodes are closed in reverse document order then: the answers are counted by one merge, and written from the end of out and own by a second.
 // Two entry points, `elca` and `slca`.
-ghost use Rattle.merge.specs.Merge.{depot, MergedElca, MergedSlca};
+ghost use Rattle.depot.specs.Depot.{depot};
+ghost use Rattle.merge.specs.Merge.{MergedElca, MergedSlca};
 ghost use Rattle.merge.specs.Inner.Passes.{Searched};
 use index::Reply;
 
@@ -45,9 +46,9 @@ fn search(
         stack.len(),
         smallest,
     );
-    let n = passes::pass(stack, parents, ends, occurrences, out, own, a.state, a.root);
+    let n = passes::pass(stack, parents, ends, occurrences, out, own, a.state);
     let b = plans::second(a, n.left, ends.len(), out.len(), own.len());
-    passes::pass(stack, parents, ends, occurrences, out, own, b.state, b.root);
+    passes::pass(stack, parents, ends, occurrences, out, own, b.state);
     passes::clear(stack, b.cells);
     b.reply
 }

@@ -9,6 +9,7 @@ use crate::cursors;
 use crate::entries;
 use crate::steps;
 use crate::steps::State;
+use crate::steps::Step;
 
 // The first m entries become zero; later ones stay.
 pub(crate) fn clear(stack: &mut [Entry], m: usize)
@@ -23,7 +24,7 @@ pub(crate) fn clear(stack: &mut [Entry], m: usize)
     }
 }
 
-// Steps, up to the end of the pass: in each the top and the entry below it are read, and the new top is stored in its place.
+// Steps, up to the end of the pass: in each the top is stored in its place, the entry below it is read, and both are handed on.
 fn run(
     stack: &mut [Entry],
     parents: &[u32],
@@ -32,43 +33,42 @@ fn run(
     cursors: &mut [u32],
     out: &mut [u32],
     own: &mut [u32],
-    s: State,
+    s: Step,
 ) -> State
-    requires { ⌜ RunPre (job (now parents) (now ends) (now occurrences)) (world (now stack) (now cursors) (now out) (now own) s) ⌝ }
+    requires { ⌜ RunPre (job (now parents) (now ends) (now occurrences)) (world (now stack) (now cursors) (now out) (now own) (s .state)) (s .top) ⌝ }
     ensures { λ r. ⌜ Ran (job (now (parents .entry)) (now (ends .entry)) (now (occurrences .entry)))
-        (world (now (stack .entry)) (now (cursors .entry)) (now (out .entry)) (now (own .entry)) s)
+        (world (now (stack .entry)) (now (cursors .entry)) (now (out .entry)) (now (own .entry)) (s .state))
         (world (now (stack .exit)) (now (cursors .exit)) (now (out .exit)) (now (own .exit)) r) ⌝ }
 {
-    let mut r = s;
-    while r.on {
-        let n = steps::advance(
+    let mut n = s;
+    while n.state.on {
+        stack[n.state.at] = n.top;
+        n = steps::advance(
             parents,
             ends,
             occurrences,
             cursors,
             out,
             own,
-            r,
-            stack[r.at],
-            stack[r.low],
+            n.state,
+            n.top,
+            stack[n.state.low],
         );
-        stack[n.state.at] = n.top;
-        r = n.state;
     }
-    r
+    n.state
 }
 
-// The first state of a pass: the cursors are set to the ends of the lists.
-fn begin(ends: &[u32], occurrences: &[u32], cursors: &mut [u32], s: State) -> State
+// The first state of a pass and its top, the root's entry: the cursors are set to the ends of the lists.
+fn begin(ends: &[u32], occurrences: &[u32], cursors: &mut [u32], s: State) -> Step
     requires { ⌜ BeginPre (now ends) (now occurrences) (now cursors) s ⌝ }
-    ensures { λ r. ⌜ Begun (now (ends .entry)) (now (occurrences .entry)) (now (cursors .entry)) s r (now (cursors .exit)) ⌝ }
+    ensures { λ n. ⌜ Begun (now (ends .entry)) (now (occurrences .entry)) (now (cursors .entry)) s n (now (cursors .exit)) ⌝ }
 {
-    if !s.on {
-        return s;
-    }
+    let e = entries::new(0);
     let mut r = s;
-    r.reach = cursors::set(ends, occurrences, cursors);
-    r
+    if s.on {
+        r.reach = cursors::set(ends, occurrences, cursors);
+    }
+    Step { state: r, top: e }
 }
 
 // A pass over the lists, from the root's entry on: answers are counted, or written. Nothing is done where there is no step to make.
@@ -80,14 +80,12 @@ pub(crate) fn pass(
     out: &mut [u32],
     own: &mut [u32],
     s: State,
-    root: usize,
 ) -> State
-    requires { ⌜ PassPre (job (now parents) (now ends) (now occurrences)) (now stack) (now out) (now own) s root ⌝ }
+    requires { ⌜ PassPre (job (now parents) (now ends) (now occurrences)) (now stack) (now out) (now own) s ⌝ }
     ensures { λ r. ⌜ Passed (job (now (parents .entry)) (now (ends .entry)) (now (occurrences .entry))) (now (stack .entry)) (now (out .entry)) (now (own .entry)) s r
         (now (stack .exit)) (now (out .exit)) (now (own .exit)) ⌝ }
 {
-    clear(stack, root);
-    let mut cursors = [0u32; 24];
-    let r = begin(ends, occurrences, &mut cursors, s);
-    run(stack, parents, ends, occurrences, &mut cursors, out, own, r)
+    let mut cursors = [0u32; 16];
+    let n = begin(ends, occurrences, &mut cursors, s);
+    run(stack, parents, ends, occurrences, &mut cursors, out, own, n)
 }

@@ -147,7 +147,7 @@ fn arrive(ends: &[u32], occurrences: &[u32], cursors: &mut [u32], s: State, t: E
 {
     let reach = s.reach;
     let x = reach - 1;
-    let came = cursors::coming(&*cursors);
+    let came = cursors::coming(&*cursors, reach);
     let mut r = s;
     r.reach = cursors::take(ends, occurrences, cursors, reach);
     if t.node == x {

@@ -25,14 +25,15 @@ use Rattle.answers.specs.Searches.{isElca, isSlca, outOf, ownOf, answers, roome
 use Rattle.slca.specs.Contracts.{SlcaSearched}
 use Rattle.elca.specs.Contracts.{ElcaSearched}
 use Rattle.merge.specs.declared.Entry.{Entry}
-use Rattle.merge.specs.Merge.{mergeSizeOk, mergeChecked, mergeElcaReply, mergeElcaOut, mergeElcaOwn, mergeSlcaReply, mergeSlcaOut, MergedElca, MergedSlca}
-use Rattle.merge.specs.Plain.{MergeSized}
-use Rattle.merge.proofs.Laws.Checks as Checks
+use Rattle.depot.specs.Depot.{depotSizeOk, depotChecked}
+use Rattle.merge.specs.Merge.{mergeElcaReply, mergeElcaOut, mergeElcaOwn, mergeSlcaReply, mergeSlcaOut, MergedElca, MergedSlca}
+use Rattle.depot.specs.Plain.{DepotSized}
+use Rattle.depot.proofs.Laws.Checks as Checks
 use Rattle.merge_laws.specs.Agree.{uncounted, AgreesElca, AgreesSlca}
 
 -- ---- the check
 -- Sizes that are fine with counts and work are fine without them, where the stack has its 64 entries.
-sized-less : (I : Index) (w s : ℕ) → Sized 0 I w → 64 ≤ s → MergeSized (uncounted I) s
+sized-less : (I : Index) (w s : ℕ) → Sized 0 I w → 64 ≤ s → DepotSized (uncounted I) s
 sized-less I w s z enough = record {
   someNodes = z .someNodes;
   fewNodes = z .fewNodes;
@@ -46,9 +47,9 @@ sized-less I w s z enough = record {
 
 -- Where the first's reply is neither SIZE nor COUNT, and the stack has its 64 entries, the second's is the same.
 checks-agree : (I : Index) (w s : ℕ) → sizeOk 0 I w ≡ true → 64 ≤ s → (b : Reply) → (checked 0 I w b .refusal ≡ COUNT → ⊥) →
-    mergeChecked (uncounted I) s b ≡ checked 0 I w b
+    depotChecked (uncounted I) s b ≡ checked 0 I w b
 checks-agree I w s e enough b other =
-    let z : mergeSizeOk (uncounted I) s ≡ true = Checks.sized-yes (uncounted I) s (sized-less I w s (sized-of 0 I w e) enough) in
+    let z : depotSizeOk (uncounted I) s ≡ true = Checks.sized-yes (uncounted I) s (sized-less I w s (sized-of 0 I w e) enough) in
     ⊎-elim
     (λ t. Checks.checked-tree (uncounted I) s b z t ∙ sym (checked-tree 0 I w b e t))
     (λ t. ⊎-elim
@@ -67,7 +68,7 @@ no-size-sized I w b other = ⊎-elim (λ e. e) (λ e. absurd (other (ap (λ (z :
 -- ---- ELCA
 -- Which nodes are listed, and what is written for them, does not depend on counts.
 elca-unread : (I : Index) (ys : List Entry) (o s : List ℕ) →
-    mergeElcaReply (uncounted I) ys o s ≡ mergeChecked (uncounted I) (length ys) (roomed I (isElca I) (outFits I (isElca I) o && ownFits I (isElca I) s))
+    mergeElcaReply (uncounted I) ys o s ≡ depotChecked (uncounted I) (length ys) (roomed I (isElca I) (outFits I (isElca I) o && ownFits I (isElca I) s))
 unfolding mergeElcaReply roomed answers isElca outFits ownFits outOf ownOf
 elca-unread I ys o s = refl
 
@@ -100,7 +101,7 @@ module _ (I : Index) (w o s : List ℕ) (r : Reply) (w′ o′ s′ : List ℕ) 
 
 -- ---- SLCA
 slca-unread : (I : Index) (ys : List Entry) (o : List ℕ) →
-    mergeSlcaReply (uncounted I) ys o ≡ mergeChecked (uncounted I) (length ys) (roomed I (isSlca I) (outFits I (isSlca I) o))
+    mergeSlcaReply (uncounted I) ys o ≡ depotChecked (uncounted I) (length ys) (roomed I (isSlca I) (outFits I (isSlca I) o))
 unfolding mergeSlcaReply roomed answers isSlca outFits outOf
 slca-unread I ys o = refl
 

@@ -17,14 +17,15 @@ use Rattle.index.specs.Replies.{SIZE, COUNT, refused, room, workAfter, keptOr}
 use Rattle.index.proofs.Laws.Sizes.{sized-of}
 use Rattle.index.proofs.Laws.Replies.{kept-refused}
 use Rattle.merge.specs.declared.Entry.{Entry}
-use Rattle.merge.specs.Merge.{mergeChecked, stackAfter, mergeElcaReply, mergeElcaOut, mergeElcaOwn, mergeSlcaReply, mergeSlcaOut, MergedElca, MergedSlca}
+use Rattle.depot.specs.Depot.{depotChecked}
+use Rattle.merge.specs.Merge.{stackAfter, mergeElcaReply, mergeElcaOut, mergeElcaOwn, mergeSlcaReply, mergeSlcaOut, MergedElca, MergedSlca}
 use Rattle.demands.specs.Calls.{Replied, SlcaDemands, ElcaDemands}
 use Rattle.demands.proofs.Calls.{slca-demands, elca-demands}
 use Rattle.demands.proofs.Unique.{slca-demands-unique, elca-demands-unique}
 use Rattle.merge_laws.specs.Agree.{righted}
-use Rattle.merge.specs.Plain.{MergeSized}
+use Rattle.depot.specs.Plain.{DepotSized}
 use Rattle.merge_laws.specs.Calls.{MergeReplied, MergeElcaDemands, MergeSlcaDemands}
-use Rattle.merge.proofs.Laws.Checks.{sized-no, checked-size, sized-any}
+use Rattle.depot.proofs.Laws.Checks.{sized-no, checked-size, sized-any}
 use Rattle.merge_laws.proofs.Counts.{counts-right, righted-sized, merge-elca-first, merge-slca-first}
 use Rattle.merge_laws.proofs.Leaving.{stack-left, size-or, stack-unique}
 
@@ -40,27 +41,27 @@ zeros-enough I = omega (arith, length-replicate {A = ℕ} (room I) 0)
 kept-size : (r : Reply) (new o : List ℕ) → r .refusal ≡ SIZE → keptOr r new o ≡ o
 kept-size r new o q = kept-refused r new o (λ z. omega (arith, q, z))
 
-module _ (I : Index) (ys : List Entry) (r b : Reply) (e : r ≡ mergeChecked I (length ys) b) where
-  other-sized : (r .refusal ≡ SIZE → ⊥) → MergeSized I (length ys)
+module _ (I : Index) (ys : List Entry) (r b : Reply) (e : r ≡ depotChecked I (length ys) b) where
+  other-sized : (r .refusal ≡ SIZE → ⊥) → DepotSized I (length ys)
   other-sized ne = sized-any I (length ys) b (λ q. ne (ap (λ (x : Reply). x .refusal) e ∙ q))
 
-  refused-size : (MergeSized I (length ys) → ⊥) → r ≡ refused SIZE 0
+  refused-size : (DepotSized I (length ys) → ⊥) → r ≡ refused SIZE 0
   refused-size h = e ∙ checked-size I (length ys) b (sized-no I (length ys) h)
 
   -- Where nothing is wrong with the sizes, r is a reply of the search with counts, with right ones. F says that there is room for the m answers.
-  module _ (F : Type 0) (m : ℕ) (first : MergeSized I (length ys) → Replied 0 (righted I) (length (zeros I)) F m r) where
-    unsized : r .refusal ≡ SIZE → MergeSized I (length ys) → ⊥
+  module _ (F : Type 0) (m : ℕ) (first : DepotSized I (length ys) → Replied 0 (righted I) (length (zeros I)) F m r) where
+    unsized : r .refusal ≡ SIZE → DepotSized I (length ys) → ⊥
     unsized q z = first z .size .0 q (sized-of 0 (righted I) _ (righted-sized I _ (length ys) z (zeros-enough I)))
 
     not-count : r .refusal ≡ COUNT → ⊥
     not-count q =
-        let z : MergeSized I (length ys) = other-sized (λ s. omega (arith, q, s)) in
+        let z : DepotSized I (length ys) = other-sized (λ s. omega (arith, q, s)) in
         let h : _ = first z .count .0 q in
         h .3 (counts-right I (z .ended) (h .1) (h .2) .counts)
 
     merge-replied : (ys′ : List Entry) → ys′ ≡ stackAfter I ys → MergeReplied I ys r ys′
     merge-replied ys′ left =
-        let size : (r .refusal ≡ SIZE) ↔ (MergeSized I (length ys) → ⊥) = (unsized, λ h. ap (λ (x : Reply). x .refusal) (refused-size h)) in
+        let size : (r .refusal ≡ SIZE) ↔ (DepotSized I (length ys) → ⊥) = (unsized, λ h. ap (λ (x : Reply). x .refusal) (refused-size h)) in
         record { size = size; sizeZero = λ q. refused-size (unsized q); noCount = not-count; stack = rw left (stack-left I ys r size) }
 
 -- Of two calls that do as demanded both are refused by SIZE, or neither is.
@@ -77,7 +78,7 @@ module _ (I : Index) (ys : List Entry) (o s : List ℕ) where
   pub merge-elca-demands : (r : Reply) (ys′ : List Entry) (o′ s′ : List ℕ) → MergedElca I ys o s r ys′ o′ s′ → MergeElcaDemands I ys o s r ys′ o′ s′
   unfolding mergeElcaReply mergeElcaOut mergeElcaOwn
   merge-elca-demands r ys′ o′ s′ c =
-      let first : MergeSized I (length ys) → (w : List ℕ) → room I ≤ length w → ElcaDemands (righted I) w o s r (workAfter 0 (righted I) w) o′ s′ =
+      let first : DepotSized I (length ys) → (w : List ℕ) → room I ≤ length w → ElcaDemands (righted I) w o s r (workAfter 0 (righted I) w) o′ s′ =
       λ z w enough. elca-demands (righted I) w o s r _ o′ s′ (merge-elca-first I ys o r ys′ o′ z w enough s s′ c) in
       let given : r .refusal ≡ mergeElcaReply I ys o s .refusal = ap (λ (x : Reply). x .refusal) (c .reply) in
       record {
@@ -112,7 +113,7 @@ module _ (I : Index) (ys : List Entry) (o : List ℕ) where
   pub merge-slca-demands : (r : Reply) (ys′ : List Entry) (o′ : List ℕ) → MergedSlca I ys o r ys′ o′ → MergeSlcaDemands I ys o r ys′ o′
   unfolding mergeSlcaReply mergeSlcaOut
   merge-slca-demands r ys′ o′ c =
-      let first : MergeSized I (length ys) → (w : List ℕ) → room I ≤ length w → SlcaDemands (righted I) w o r (workAfter 0 (righted I) w) o′ =
+      let first : DepotSized I (length ys) → (w : List ℕ) → room I ≤ length w → SlcaDemands (righted I) w o r (workAfter 0 (righted I) w) o′ =
       λ z w enough. slca-demands (righted I) w o r _ o′ (merge-slca-first I ys o r ys′ o′ z w enough c) in
       record {
         reply = merge-replied I ys r _ (c .reply) _ _ (λ z. first z (zeros I) (zeros-enough I) .search .reply) ys′ (c .stack);

@@ -35,20 +35,21 @@ use Rattle.answers.specs.Searches.{isElca, isSlca, outOf, ownOf, answers, roome
 use Rattle.slca.specs.Contracts.{SlcaSearched}
 use Rattle.elca.specs.Contracts.{ElcaSearched}
 use Rattle.merge.specs.declared.Entry.{Entry}
-use Rattle.merge.specs.Merge.{mergeLengthsOk, mergeSizeOk, mergeChecked, stackAfter, mergeElcaReply, mergeElcaOut, mergeElcaOwn, mergeSlcaReply, mergeSlcaOut, MergedElca, MergedSlca}
+use Rattle.depot.specs.Depot.{depotLengthsOk, depotSizeOk, depotChecked}
+use Rattle.merge.specs.Merge.{stackAfter, mergeElcaReply, mergeElcaOut, mergeElcaOwn, mergeSlcaReply, mergeSlcaOut, MergedElca, MergedSlca}
 use Rattle.merge_laws.specs.Agree.{recounted, trueCounts, righted, uncounted, AgreesElca, AgreesSlca}
-use Rattle.merge.specs.Plain.{MergeSized}
+use Rattle.depot.specs.Plain.{DepotSized}
 use Rattle.merge_laws.proofs.Agree.{no-size-sized, elca-sized, engines-agree-always, slca-sized, engines-agree-slca-always}
 
 -- ---- counts are not read
 pub counts-unread : (I : Index) (cs : List ℕ) (ys : List Entry) (o s : List ℕ) (r : Reply) (ys₂ : List Entry) (o₂ s₂ : List ℕ) → MergedElca I ys o s r ys₂ o₂ s₂ →
     MergedElca (recounted I cs) ys o s r ys₂ o₂ s₂
-unfolding mergeElcaReply mergeElcaOut mergeElcaOwn stackAfter mergeChecked mergeSizeOk mergeLengthsOk nodesOk wordsOk roomed answers isElca outFits ownFits outOf ownOf
+unfolding mergeElcaReply mergeElcaOut mergeElcaOwn stackAfter depotChecked depotSizeOk depotLengthsOk nodesOk wordsOk roomed answers isElca outFits ownFits outOf ownOf
 counts-unread I cs ys o s r ys₂ o₂ s₂ a = record { reply = a .reply; stack = a .stack; out = a .out; own = a .own }
 
 pub counts-unread-slca : (I : Index) (cs : List ℕ) (ys : List Entry) (o : List ℕ) (r : Reply) (ys₂ : List Entry) (o₂ : List ℕ) → MergedSlca I ys o r ys₂ o₂ →
     MergedSlca (recounted I cs) ys o r ys₂ o₂
-unfolding mergeSlcaReply mergeSlcaOut stackAfter mergeChecked mergeSizeOk mergeLengthsOk nodesOk wordsOk roomed answers isSlca outFits outOf
+unfolding mergeSlcaReply mergeSlcaOut stackAfter depotChecked depotSizeOk depotLengthsOk nodesOk wordsOk roomed answers isSlca outFits outOf
 counts-unread-slca I cs ys o r ys₂ o₂ a = record { reply = a .reply; stack = a .stack; out = a .out }
 
 -- ---- right counts for wrong ones
@@ -150,7 +151,7 @@ module _ (I : Index) (w : ℕ) (b : Reply) (q : checked 0 I w b .refusal ≡ COU
   )
 
 -- ---- whatever the second replies, but SIZE
-module _ (I : Index) (w s : ℕ) (z : MergeSized I s) (enough : room I ≤ w) where
+module _ (I : Index) (w s : ℕ) (z : DepotSized I s) (enough : room I ≤ w) where
   pub righted-sized : sizeOk 0 (righted I) w ≡ true
   righted-sized =
       sized-yes 0 (righted I) w (record {
@@ -171,7 +172,7 @@ module _ (I : Index) (w s : ℕ) (z : MergeSized I s) (enough : room I ≤ w) wh
   unfolding trueCounts
   righted-other f fits q = right-other (righted I) (trueCounts I) refl w (count-rightable (righted I) w _ q .0) righted-sized f fits q
 
-module _ (I : Index) (ys : List Entry) (o : List ℕ) (r : Reply) (ys₂ : List Entry) (o₂ : List ℕ) (z : MergeSized I (length ys)) (w : List ℕ)
+module _ (I : Index) (ys : List Entry) (o : List ℕ) (r : Reply) (ys₂ : List Entry) (o₂ : List ℕ) (z : DepotSized I (length ys)) (w : List ℕ)
     (enough : room I ≤ length w) where
   pub merge-elca-first : (s s₂ : List ℕ) → MergedElca I ys o s r ys₂ o₂ s₂ → ElcaSearched (righted I) w o s r (workAfter 0 (righted I) w) o₂ s₂
   unfolding mergeElcaReply elcaReply

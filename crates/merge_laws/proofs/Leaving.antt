@@ -17,26 +17,27 @@ use Rattle.index.specs.declared.Reply.{Reply}
 use Rattle.index.specs.Index.{Index}
 use Rattle.index.specs.Replies.{SIZE}
 use Rattle.merge.specs.declared.Entry.{Entry}
-use Rattle.merge.specs.Merge.{mergeSizeOk, blank, blanked, stackAfter}
+use Rattle.depot.specs.Depot.{depotSizeOk}
+use Rattle.merge.specs.Merge.{blank, blanked, stackAfter}
 use Rattle.merge.proofs.Blanks.{blanked-long, blanked-at, blanked-rest}
-use Rattle.merge.specs.Plain.{MergeSized}
+use Rattle.depot.specs.Plain.{DepotSized}
 use Rattle.merge_laws.specs.Calls.{StackLeft}
-use Rattle.merge.proofs.Laws.Checks.{sized-of, sized-yes, sized-no}
+use Rattle.depot.proofs.Laws.Checks.{sized-of, sized-yes, sized-no}
 
 -- ---- as the definitions have it
 module _ (I : Index) (ys : List Entry) where
-  stack-sized : mergeSizeOk I (length ys) ≡ true → stackAfter I ys ≡ blanked 64 ys
+  stack-sized : depotSizeOk I (length ys) ≡ true → stackAfter I ys ≡ blanked 64 ys
   unfolding stackAfter
   stack-sized e = rw e
 
-  stack-kept : mergeSizeOk I (length ys) ≡ false → stackAfter I ys ≡ ys
+  stack-kept : depotSizeOk I (length ys) ≡ false → stackAfter I ys ≡ ys
   unfolding stackAfter
   stack-kept e = rw e
 
-module _ (I : Index) (ys : List Entry) (r : Reply) (size : (r .refusal ≡ SIZE) ↔ (MergeSized I (length ys) → ⊥)) where
-  is-sized : (r .refusal ≡ SIZE → ⊥) → mergeSizeOk I (length ys) ≡ true
+module _ (I : Index) (ys : List Entry) (r : Reply) (size : (r .refusal ≡ SIZE) ↔ (DepotSized I (length ys) → ⊥)) where
+  is-sized : (r .refusal ≡ SIZE → ⊥) → depotSizeOk I (length ys) ≡ true
   is-sized ne =
-      ⊎-elim (λ q. q) (λ q. absurd (ne (size .1 (λ z. bool-not-both (mergeSizeOk I (length ys)) (sized-yes I (length ys) z) q)))) (bool-cases (mergeSizeOk I (length ys)))
+      ⊎-elim (λ q. q) (λ q. absurd (ne (size .1 (λ z. bool-not-both (depotSizeOk I (length ys)) (sized-yes I (length ys) z) q)))) (bool-cases (depotSizeOk I (length ys)))
 
   after : (r .refusal ≡ SIZE → ⊥) → stackAfter I ys ≡ blanked 64 ys
   after ne = stack-sized I ys (is-sized ne)

@@ -13,7 +13,7 @@ use Rattle.seq.specs.Below.{tabulate}
 use Rattle.index.specs.declared.Reply.{Reply}
 use Rattle.index.specs.Index.{Index, nodes, words, trueCount}
 use Rattle.index.specs.Contracts.{lent}
-use Rattle.merge.specs.Merge.{depot}
+use Rattle.depot.specs.Depot.{depot}
 
 abbrev pub recounted : Index → List ℕ → Index
 recounted I cs = lent (I .parents) (I .tags) (I .positive) (I .negative) (I .ends) (I .occurrences) cs

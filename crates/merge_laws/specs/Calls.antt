@@ -2,7 +2,7 @@
 --   StackLeft r ys ys′  == what a reply leaves in the stack
 --   MergeReplied …      == what is the same for both searches: when SIZE is given, that COUNT never is, and the stack
 --   MergeElcaDemands, MergeSlcaDemands   == all that is demanded of a call of each search
--- SIZE in plain words is `MergeSized` (`merge`, specs/Plain). All else is demanded in the words of the searches with counts (`demands`, specs/Calls), of the same index with right counts.
+-- SIZE in plain words is `DepotSized` (`merge`, specs/Plain). All else is demanded in the words of the searches with counts (`demands`, specs/Calls), of the same index with right counts.
 -- proofs/Calls shows that each is the same as the contract of the search.
 -- Letters: I index; ys, o, s what was lent as stack, out and own, ys′, o′, s′ what they are at the end; r reply; w work; i entry. Assumes nothing.
 use Prim.Native.Nat.{ℕ, _≤_, _<_}
@@ -15,7 +15,7 @@ use Rattle.index.specs.Index.{Index}
 use Rattle.index.specs.Replies.{SIZE, COUNT, refused, room, workAfter}
 use Rattle.merge.specs.declared.Entry.{Entry}
 use Rattle.merge.specs.Merge.{blank}
-use Rattle.merge.specs.Plain.{MergeSized}
+use Rattle.depot.specs.Plain.{DepotSized}
 use Rattle.demands.specs.Calls.{SlcaDemands, ElcaDemands}
 use Rattle.merge_laws.specs.Agree.{righted}
 
@@ -30,7 +30,7 @@ pub record StackLeft (r : Reply) (ys ys′ : List Entry) : Type 0 where
 -- ---- both searches
 pub record MergeReplied (I : Index) (ys : List Entry) (r : Reply) (ys′ : List Entry) : Type 0 where
   -- SIZE exactly if a length or a number of words is wrong; its place and total are 0
-  pub size : (r .refusal ≡ SIZE) ↔ (MergeSized I (length ys) → ⊥)
+  pub size : (r .refusal ≡ SIZE) ↔ (DepotSized I (length ys) → ⊥)
   pub sizeZero : r .refusal ≡ SIZE → r ≡ refused SIZE 0
   pub noCount : r .refusal ≡ COUNT → ⊥
   pub stack : StackLeft r ys ys′

@@ -144,14 +144,14 @@ module _ (J : Job) (u : World) (G : Going J u) (on : u .state .on ≡ true) wher
   }
 
   -- ---- a node comes
-  coming-at : (j : ℕ) → j < 8 → getD (comingRow (u .cursors)) j 0 ≡ coming (u .cursors) j
+  coming-at : (j : ℕ) → j < 8 → getD (comingRow (u .cursors) (st .reach)) j 0 ≡ coming (u .cursors) (st .reach) j
   unfolding comingRow
-  coming-at j l = getD-tabulate 8 (coming (u .cursors)) j 0 l
+  coming-at j l = getD-tabulate 8 (coming (u .cursors) (st .reach)) j 0 l
 
-  pub going-comes : 0 < st .reach → (j : ℕ) → j < 8 → getD (comingRow (u .cursors)) j 0 ≡ tally (eqb (st .reach - 1)) (W j)
+  pub going-comes : 0 < st .reach → (j : ℕ) → j < 8 → getD (comingRow (u .cursors) (st .reach)) j 0 ≡ tally (eqb (st .reach - 1)) (W j)
   going-comes h j l = coming-at j l ∙ coming-is J (G .sound) (st .reach) (u .cursors) (G .reaching on) h j l
 
-  coming-few : 0 < st .reach → (j : ℕ) → j < 8 → getD (comingRow (u .cursors)) j 0 ≤ 65536
+  coming-few : 0 < st .reach → (j : ℕ) → j < 8 → getD (comingRow (u .cursors) (st .reach)) j 0 ≤ 65536
   coming-few h j l =
       omega (arith, going-comes h j l, tally-le (eqb (st .reach - 1)) (W j), list-le J (G .sound) j l, G .sound .few)
 

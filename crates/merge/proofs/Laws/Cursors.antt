@@ -13,10 +13,10 @@ use mathlib.Core.Bool.{Bool, true, false, cond}
 use mathlib.Core.Logic.{⊎-elim}
 use native.Mathlib.Omega.{arith}
 use lib.Dec.{eqb}
-use borrow.Author.Tests.{lt-ltb, le-ltb, eq-eqb, eqb-true, eqb-false}
+use borrow.Author.Tests.{lt-ltb, le-ltb, eq-eqb, ne-eqb, eqb-true, eqb-false}
 use lib.ListN.{length, getD, replicate, getD-replicate}
 use Rattle.seq.specs.Lists.{tally, someOf}
-use Rattle.seq.proofs.Laws.Bools.{bool-cases, bool-ext}
+use Rattle.seq.proofs.Laws.Bools.{bool-cases, bool-ext, cond-false}
 use Rattle.seq.proofs.Laws.Numbers.{less-or}
 use Rattle.seq.proofs.Laws.Lists as Passing
 use Rattle.seq.proofs.Laws.Lists.{someOf-at, someOf-of}
@@ -119,13 +119,13 @@ module _ (J : Job) (S : Sound J) where
                   (less-or (from j + y .at) (upTo c j))
 
       -- What comes next, word by word.
-      pub coming-is : (j : ℕ) → j < 8 → coming c j ≡ tally (eqb (r - 1)) (listOf J j)
+      pub coming-is : (j : ℕ) → j < 8 → coming c r j ≡ tally (eqb (r - 1)) (listOf J j)
       unfolding tally
       coming-is j l =
           ⊎-elim
-          (λ (m : j < wordsOf J). R .comes j m ∙ ap (λ (z : Bool). cond z 1 0) (stands-member j m)
+          (λ (m : j < wordsOf J). ap (λ (z : Bool). cond z 1 0) (stands-member j m)
           ∙ sym (tally-rising (nodesOf J) (listOf J j) (list-below J S j l) (list-rising J S j l) (r - 1) reach-node))
-          (λ (m : wordsOf J ≤ j). R .others j m l .1 ∙ sym (ap (tally (eqb (r - 1))) (list-none J S j m)))
+          (λ (m : wordsOf J ≤ j). cond-false _ (ne-eqb (head c j) r (λ (z : head c j ≡ r). omega (arith, R .others j m l))) _ _ ∙ sym (ap (tally (eqb (r - 1))) (list-none J S j m)))
           (less-or j (wordsOf J))
 
       -- What is asked of the cursors.
@@ -205,8 +205,7 @@ module _ (J : Job) (S : Sound J) where
               (bool-cases (here j));
           highest = T .reach;
           met = λ j i l h g. omega (arith, taken-less, taken-from j i l h g);
-          comes = T .comes;
-          others = λ j h l. (T .others j h l .0 ∙ R .others j h l .0, T .others j h l .2 ∙ R .others j h l .1);
+          others = λ j h l. T .others j h l .0 ∙ R .others j h l;
         }
 
   -- No occurrence stands from the next reach on and before the node that was taken.
@@ -222,7 +221,7 @@ module _ (J : Job) (S : Sound J) where
       (less-or j (wordsOf J))
 
   -- ---- the begin
-  pub set-pre : (c : List ℕ) → length c ≡ 24 → SetPre (J .ends) (J .occurrences) c
+  pub set-pre : (c : List ℕ) → length c ≡ 16 → SetPre (J .ends) (J .occurrences) c
   set-pre c l = record {
     words = S .fewWords;
     long = l;
@@ -230,9 +229,9 @@ module _ (J : Job) (S : Sound J) where
     small = λ j i h g m. omega (arith, occurrence-below J S j i h g m, S .few);
   }
 
-  module _ (c : List ℕ) (r′ : ℕ) (c′ : List ℕ) (zeros : c ≡ replicate 24 0) (T : Set (J .ends) (J .occurrences) c r′ c′) where
-    zero-at : (i : ℕ) → i < 24 → getD c i 0 ≡ 0
-    zero-at i l = ap (λ (z : List ℕ). getD z i 0) zeros ∙ getD-replicate {A = ℕ} 24 i 0 0 l
+  module _ (c : List ℕ) (r′ : ℕ) (c′ : List ℕ) (zeros : c ≡ replicate 16 0) (T : Set (J .ends) (J .occurrences) c r′ c′) where
+    zero-at : (i : ℕ) → i < 16 → getD c i 0 ≡ 0
+    zero-at i l = ap (λ (z : List ℕ). getD z i 0) zeros ∙ getD-replicate {A = ℕ} 16 i 0 0 l
 
     pub reaching-set : Reaching J r′ c′
     reaching-set = record {
@@ -242,8 +241,7 @@ module _ (J : Job) (S : Sound J) where
       heads = λ j l. T .heads j l ∙ ap (lastLeft (J .occurrences) (from j)) (sym (T .upTos j l));
       highest = T .reach;
       met = λ j i l h g. omega (arith, T .upTos j l);
-      comes = T .comes;
-      others = λ j h l. (T .others j h l .0 ∙ zero-at j (omega arith), T .others j h l .2 ∙ zero-at (16 + j) (omega arith));
+      others = λ j h l. T .others j h l .0 ∙ zero-at j (omega arith);
     }
 
     -- Every occurrence stands before the reach.

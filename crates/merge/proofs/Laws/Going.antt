@@ -1,22 +1,23 @@
 -- A pass over the lists, from its begin to its end: the results that the proofs of the code cite. Assumes nothing.
 --   going-at, going-low, going-deep, going-pre   what one step asks holds between two steps
 --   Stepped, going-stepped   one step keeps what holds
---   kept-refl, kept-trans, kept-since   what a pass leaves of the stack, of out and of own
+--   kept-refl, kept-trans, kept-since, kept-with   what a pass leaves of the stack, of out and of own
 --   set-pre, going-begun   the begin
+--   going-over          where the pass is over, the top need not stand in its place
 --   counted-all, length-rows, written-all   the end: all answers have been counted, or written; how many own counts they have
 --   sound-of            the checks show what is asked of a job
 -- Letters: J job; u, u₀, u′, u″ worlds; ys stack, c cursors, r′ reach; o, w out and own; b whether the smallest are listed; m answers left; i entry.
-use Prim.Native.Nat.{ℕ, _-_, _*_, _≤_, _<_}
+use Prim.Native.Nat.{ℕ, _+_, _-_, _*_, _≤_, _<_}
 use mathlib.Core.Path.{_≡_, refl, sym, ap, subst, _∙_}
 use mathlib.Core.List.{List}
 use mathlib.Core.Bool.{Bool, true, false}
 use mathlib.Core.Logic.{⊎-elim}
 use native.Mathlib.Nat.{mul-le-mul-right}
 use native.Mathlib.Omega.{arith}
-use lib.ListN.{length, getD, replicate}
+use lib.ListN.{length, getD, length-set, replicate}
 use Rattle.seq.specs.Memory.{over}
 use Rattle.seq.specs.Plain.{StaysFrom}
-use Rattle.seq.proofs.Laws.Bools.{bool-cases}
+use Rattle.seq.proofs.Laws.Bools.{bool-cases, bool-not-both}
 use Rattle.seq.proofs.Laws.Gather.{length-gather, length-tabulate}
 use Rattle.seq.proofs.Laws.Memory.{over-front}
 use Rattle.seq.proofs.Laws.Plain.{stays-over, stays-unique}
@@ -30,7 +31,7 @@ use Rattle.merge.specs.declared.Entry.{Entry}
 use Rattle.merge.specs.Inner.Entries.{fresh}
 use Rattle.merge.specs.Inner.Cursors.{Set}
 use Rattle.merge.specs.Inner.Meaning.{occ, entryAt, nodeAt}
-use Rattle.merge.specs.Inner.Going.{Job, World, nodesOf, wordsOf, listOf, isAnswer, answersOf, total, ownRows, pastOf, metOf, Sound, Written, Going, Kept}
+use Rattle.merge.specs.Inner.Going.{Job, World, nodesOf, wordsOf, listOf, isAnswer, answersOf, total, ownRows, pastOf, metOf, Sound, Written, Going, Kept, opened}
 use Rattle.merge.proofs.Laws.Climbing.{answer-full}
 use Rattle.merge.proofs.Laws.Opening.{standing-begun}
 use Rattle.merge.proofs.Laws.Occurrences.{list-below}
@@ -82,8 +83,22 @@ kept-trans J u u′ u″ a b falls = record {
 pub kept-since : (J : Job) (u₀ u u′ : World) → (u₀ .state .fill ≡ true → u₀ .state .left ≡ total J (u₀ .state .smallest)) → Kept J u₀ u → Going J u → Kept J u u′ → Kept J u₀ u′
 kept-since J u₀ u u′ all a G b = kept-trans J u₀ u u′ a b (λ f. omega (arith, all f, ap (total J) (a .smallest), G .writes (a .fill ∙ f) .left))
 
+-- With a stack that is the same past its first 64 entries.
+pub kept-with : (J : Job) (u₀ u : World) → Kept J u₀ u → (ys : List Entry) → length ys ≡ length (u .stack) → ((i : ℕ) → 64 ≤ i → getD ys i (fresh 0) ≡ getD (u .stack) i (fresh 0)) →
+    Kept J u₀ (record { stack = ys; cursors = u .cursors; out = u .out; own = u .own; state = u .state })
+kept-with J u₀ u a ys long rest = record {
+  smallest = a .smallest;
+  fill = a .fill;
+  long = long ∙ a .long;
+  rest = λ i l. rest i l ∙ a .rest i l;
+  counted = a .counted;
+  out = a .out;
+  own = a .own;
+  noOwn = a .noOwn;
+}
+
 -- ---- the begin
-module _ (J : Job) (S : Sound J) (ys : List Entry) (wide : 64 ≤ length ys) (blank : entryAt ys 0 ≡ fresh 0) (c : List ℕ) (r′ : ℕ) (c′ : List ℕ) (zeros : c ≡ replicate 24 0) (T : Set (J .ends) (J .occurrences) c r′ c′) where
+module _ (J : Job) (S : Sound J) (ys : List Entry) (wide : 64 ≤ length ys) (blank : entryAt ys 0 ≡ fresh 0) (c : List ℕ) (r′ : ℕ) (c′ : List ℕ) (zeros : c ≡ replicate 16 0) (T : Set (J .ends) (J .occurrences) c r′ c′) where
   -- An answer has an occurrence under it, and every occurrence stands before the reach.
   none-met : (b : Bool) (v : ℕ) → v < nodesOf J → r′ ≤ v → isAnswer J b v ≡ true → ⊥
   unfolding isAnswer
@@ -127,11 +142,33 @@ module _ (J : Job) (u : World) (G : Going J u) (off : u .state .on ≡ false) wh
   pub counted-all : u .state .fill ≡ false → u .state .left ≡ total J (u .state .smallest)
   counted-all f = G .counts f ∙ met-all
 
+pub going-over : (J : Job) (v : World) (t : Entry) → Going J (opened v t) → v .state .on ≡ false → Going J v
+unfolding metOf
+going-over J v t G off = record {
+  sound = G .sound;
+  wide = omega (arith, G .wide, length-set (v .stack) (v .state .at) t);
+  low = G .low;
+  standing = λ on. absurd (bool-not-both (v .state .on) on off);
+  reaching = G .reaching;
+  counts = λ f. G .counts f ∙ met-same;
+  writes = λ f. record {
+    left = ap (λ (m : ℕ). v .state .left + m) (sym met-same) ∙ G .writes f .left;
+    room = G .writes f .room;
+    nodes = G .writes f .nodes;
+    ownRoom = G .writes f .ownRoom;
+    owns = G .writes f .owns;
+  };
+}
+  where
+    met-same : metOf J (opened v t) ≡ metOf J v
+    met-same = rw off
+
 pub length-rows : (J : Job) (b : Bool) → length (ownRows J b) ≡ total J b * wordsOf J
 unfolding ownRows
 length-rows J b = length-gather (wordsOf J) (nodesOf J) (isAnswer J b) _ (λ i l. length-tabulate (wordsOf J) _)
 
-module _ (J : Job) (u₀ u : World) (G₀ : Going J u₀) (f : u₀ .state .fill ≡ true) (all : u₀ .state .left ≡ total J (u₀ .state .smallest)) (K : Kept J u₀ u) (G : Going J u) (off : u .state .on ≡ false) where
+module _ (J : Job) (u₀ u : World) (f : u₀ .state .fill ≡ true) (all : u₀ .state .left ≡ total J (u₀ .state .smallest)) (room : total J (u₀ .state .smallest) ≤ length (u₀ .out))
+    (ownRoom : u₀ .state .smallest ≡ false → total J (u₀ .state .smallest) * wordsOf J ≤ length (u₀ .own)) (K : Kept J u₀ u) (G : Going J u) (off : u .state .on ≡ false) where
   abbrev listing : Bool
   listing = u₀ .state .smallest
 
@@ -153,13 +190,13 @@ module _ (J : Job) (u₀ u : World) (G₀ : Going J u₀) (f : u₀ .state .fill
   out-all : u .out ≡ over (answersOf J listing) (u₀ .out)
   out-all =
       stays-unique (total J listing) (u₀ .out) (u .out) (over (answersOf J listing) (u₀ .out)) (subst (λ (m : ℕ). StaysFrom m (u₀ .out) (u .out)) all (K .out))
-      (stays-over (answersOf J listing) (u₀ .out) (G₀ .writes f .room)) (λ i l. node-written i l ∙ sym (over-front (answersOf J listing) (u₀ .out) i l))
+      (stays-over (answersOf J listing) (u₀ .out) room) (λ i l. node-written i l ∙ sym (over-front (answersOf J listing) (u₀ .out) i l))
 
   own-all : listing ≡ false → u .own ≡ over (ownRows J listing) (u₀ .own)
   own-all z =
       let long : u₀ .state .left * wordsOf J ≡ length (ownRows J listing) = ap (λ (m : ℕ). m * wordsOf J) all ∙ sym (length-rows J listing) in
       stays-unique (length (ownRows J listing)) (u₀ .own) (u .own) (over (ownRows J listing) (u₀ .own)) (subst (λ (m : ℕ). StaysFrom m (u₀ .own) (u .own)) long (K .own))
-      (stays-over (ownRows J listing) (u₀ .own) (omega (arith, length-rows J listing, G₀ .writes f .ownRoom z)))
+      (stays-over (ownRows J listing) (u₀ .own) (omega (arith, length-rows J listing, ownRoom z)))
       (λ i l. own-written z i (omega (arith, length-rows J listing)) ∙ sym (over-front (ownRows J listing) (u₀ .own) i l))
 
   -- All answers are written, in the order of their numbers, and nothing else.

@@ -62,12 +62,12 @@ module _ (p : List ℕ) (k : ℕ) (s : State) (e b : Entry) where
 
 module _ (s : State) (t : Entry) (c : List ℕ) (r′ : ℕ) where
   arrived-added : t .node ≡ s .reach - 1 →
-      arrivedStep s t c r′ ≡ step (moved s (s .on) (s .at) (s .low) r′ (s .left)) (record { node = s .reach - 1; own = sums (t .own) (comingRow c); covered = t .covered })
+      arrivedStep s t c r′ ≡ step (moved s (s .on) (s .at) (s .low) r′ (s .left)) (record { node = s .reach - 1; own = sums (t .own) (comingRow c (s .reach)); covered = t .covered })
   unfolding arrivedStep
   arrived-added z = cond-true (eqb (t .node) (s .reach - 1)) (eq-eqb (t .node) (s .reach - 1) z) _ _
 
   arrived-pushed : (t .node ≡ s .reach - 1 → ⊥) →
-      arrivedStep s t c r′ ≡ step (moved s (s .on) (s .at + 1) (s .at) r′ (s .left)) (record { node = s .reach - 1; own = comingRow c; covered = replicate 8 0 })
+      arrivedStep s t c r′ ≡ step (moved s (s .on) (s .at + 1) (s .at) r′ (s .left)) (record { node = s .reach - 1; own = comingRow c (s .reach); covered = replicate 8 0 })
   unfolding arrivedStep
   arrived-pushed z = cond-false (eqb (t .node) (s .reach - 1)) (ne-eqb (t .node) (s .reach - 1) z) _ _
 
@@ -230,7 +230,7 @@ module _ (J : Job) (u : World) (G : Going J u) (on : u .state .on ≡ true) wher
     is-node : y < nodesOf J
     is-node = reach-node J (G .sound) (st .reach) (u .cursors) (G .reaching on) (omega arith)
 
-    comes : (j : ℕ) → j < 8 → getD (comingRow (u .cursors)) j 0 ≡ tally (eqb y) (W j)
+    comes : (j : ℕ) → j < 8 → getD (comingRow (u .cursors) (st .reach)) j 0 ≡ tally (eqb y) (W j)
     comes = going-comes J u G on (omega arith)
 
     open-stack : Standing p k W (suc y) (u .stack) (st .at)
@@ -286,20 +286,20 @@ module _ (J : Job) (u : World) (G : Going J u) (on : u .state .on ≡ true) wher
         (λ z. let q : t .node ≡ y = eqb-true (t .node) y z in
         subst (λ (n : Step). Stepped J u (stepped u n c′ (u .out) (u .own))) (sym (arrived-added st t (u .cursors) r′ q))
         (arrived-stepped (st .at) (st .low) added (stack .place) deepest refl
-        (standing-added p (G .sound .preorder) k (G .sound .fewWords) W bound y is-node (u .stack) (st .at) open-stack (comingRow (u .cursors)) comes q) (G .low)))
+        (standing-added p (G .sound .preorder) k (G .sound .fewWords) W bound y is-node (u .stack) (st .at) open-stack (comingRow (u .cursors) (st .reach)) comes q) (G .low)))
         (λ z. let q : t .node < y = omega (arith, eqb-false (t .node) y z) in
         subst (λ (n : Step). Stepped J u (stepped u n c′ (u .out) (u .own))) (sym (arrived-pushed st t (u .cursors) r′ (eqb-false (t .node) y z)))
         (arrived-stepped (st .at + 1) (st .at) pushed (omega (arith, room q, G .wide)) (omega (arith, room q)) refl
         (subst (λ (d : ℕ). Standing p k W y (set (u .stack) d pushed) d) (sym (add-one (st .at)))
-        (standing-pushed p (G .sound .preorder) k (G .sound .fewWords) W bound y is-node (u .stack) (st .at) open-stack (comingRow (u .cursors)) comes q (omega (arith, room q, G .wide))))
+        (standing-pushed p (G .sound .preorder) k (G .sound .fewWords) W bound y is-node (u .stack) (st .at) open-stack (comingRow (u .cursors) (st .reach)) comes q (omega (arith, room q, G .wide))))
         (omega arith)))
         (bool-cases (eqb (t .node) y))
       where
         added : Entry
-        added = record { node = y; own = sums (t .own) (comingRow (u .cursors)); covered = t .covered }
+        added = record { node = y; own = sums (t .own) (comingRow (u .cursors) (st .reach)); covered = t .covered }
 
         pushed : Entry
-        pushed = record { node = y; own = comingRow (u .cursors); covered = replicate 8 0 }
+        pushed = record { node = y; own = comingRow (u .cursors) (st .reach); covered = replicate 8 0 }
 
         -- There is a place for a node under the top: levels go up to 64.
         room : t .node < y → suc (st .at) < 64

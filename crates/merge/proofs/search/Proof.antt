@@ -47,7 +47,8 @@ use Rattle.index.proofs.Reply.Laws as R′
 use Rattle.merge.specs.declared.Entry.{Entry}
 use Rattle.merge.specs.declared.plans.Plan.{Plan}
 use Rattle.merge.specs.declared.steps.State.{State}
-use Rattle.merge.specs.Merge.{depot, blanked}
+use Rattle.depot.specs.Depot.{depot}
+use Rattle.merge.specs.Merge.{blanked}
 use Rattle.merge.specs.Inner.Going.{Job}
 use Rattle.merge.specs.Inner.Passes.{job, PassPre, Passed, firstPlan, NextPre, nextPlan, Searched}
 use Rattle.merge.proofs.Entering.{Held, empty, holds, envOf, cellsOf, diesOf, enters-with, empties-from, frees-all}
@@ -228,32 +229,32 @@ module _ {M : Type 1} (𝓤 : URA M) (H : Heap 𝓤) (A : Atoms 𝓤) (W : Given
   six n = (n .νs ∷ [], (Lp .κ, (Le .κ, (Lq .κ, (n .νo ∷ [], (n .νw ∷ [], tt))))))
 
   abbrev Passing : Type 0
-  Passing = RefT (List Entry) × (RefT (List ℕ) × (RefT (List ℕ) × (RefT (List ℕ) × (RefT (List ℕ) × (RefT (List ℕ) × (State × (ℕ × Unit {0})))))))
+  Passing = RefT (List Entry) × (RefT (List ℕ) × (RefT (List ℕ) × (RefT (List ℕ) × (RefT (List ℕ) × (RefT (List ℕ) × (State × Unit {0}))))))
 
-  abbrev passing : Names → List Entry → List ℕ → List ℕ → State → ℕ → Passing
-  passing n ys o w s root = (ref T.the-row Ls (n .δs) ys, (Lp .d, (Le .d, (Lq .d, (ref u32 Lo (n .δo) o, (ref u32 Lw (n .δw) w, (s, (root, tt))))))))
+  abbrev passing : Names → List Entry → List ℕ → List ℕ → State → Passing
+  passing n ys o w s = (ref T.the-row Ls (n .δs) ys, (Lp .d, (Le .d, (Lq .d, (ref u32 Lo (n .δo) o, (ref u32 Lw (n .δw) w, (s, tt)))))))
 
-  abbrev to-pass : Names → List Entry → List ℕ → List ℕ → State → ℕ → Pass 𝓤 H A mem run .Ghost
-  to-pass n ys o w s root = ((six n, (fullShare, (Lp .q, (Le .q, (Lq .q, (fullShare, (fullShare, tt)))))), tt, passing n ys o w s root, (vals T.the-row Ls ys, (seen Lp ∷ [], (seen Le ∷ [], (seen Lq ∷ [], (vals u32 Lo o, (vals u32 Lw w, (machS s ∷ [], (vint w64 root ∷ [], tt))))))))), tt)
+  abbrev to-pass : Names → List Entry → List ℕ → List ℕ → State → Pass 𝓤 H A mem run .Ghost
+  to-pass n ys o w s = ((six n, (fullShare, (Lp .q, (Le .q, (Lq .q, (fullShare, (fullShare, tt)))))), tt, passing n ys o w s, (vals T.the-row Ls ys, (seen Lp ∷ [], (seen Le ∷ [], (seen Lq ∷ [], (vals u32 Lo o, (vals u32 Lw w, (machS s ∷ [], tt)))))))), tt)
 
-  goes-pass : (n : Names) (ys : List Entry) (o w : List ℕ) (s : State) (root : ℕ) → PassPre J ys o w s root → IsS s → root < 2 ^ 64
+  goes-pass : (n : Names) (ys : List Entry) (o w : List ℕ) (s : State) → PassPre J ys o w s → IsS s
       → ent 𝓤 (⋆ 𝓤 H A (‵ (flft (n .νs ∷ []) fullShare) ∷ ‵ (flft (Lp .κ) (Lp .q)) ∷ ‵ (flft (Le .κ) (Le .q)) ∷ ‵ (flft (Lq .κ) (Lq .q)) ∷ ‵ (flft (n .νo ∷ []) fullShare) ∷ ‵ (flft (n .νw ∷ []) fullShare)
       ∷ ‵ (Owned T.the-row Ls (named 0) (n .νs ∷ []) (n .δs) ys) ∷ ‵ (Seen Lp (named 0)) ∷ ‵ (Seen Le (named 2)) ∷ ‵ (Seen Lq (named 3)) ∷ ‵ (Owned u32 Lo (named 4) (n .νo ∷ []) (n .δo) o) ∷ ‵ (Owned u32 Lw (named 5) (n .νw ∷ []) (n .δw) w) ∷ []))
-      (Pass 𝓤 H A mem run .pre (to-pass n ys o w s root))
-  goes-pass n ys o w s root ok hs fits =
+      (Pass 𝓤 H A mem run .pre (to-pass n ys o w s))
+  goes-pass n ys o w s ok hs =
       qed W (‵ (flft (n .νs ∷ []) fullShare) ∷ ‵ (flft (Lp .κ) (Lp .q)) ∷ ‵ (flft (Le .κ) (Le .q)) ∷ ‵ (flft (Lq .κ) (Lq .q)) ∷ ‵ (flft (n .νo ∷ []) fullShare) ∷ ‵ (flft (n .νw ∷ []) fullShare)
       ∷ ‵ (Owned T.the-row Ls (named 0) (n .νs ∷ []) (n .δs) ys) ∷ ‵ (Seen Lp (named 0)) ∷ ‵ (Seen Le (named 2)) ∷ ‵ (Seen Lq (named 3)) ∷ ‵ (Owned u32 Lo (named 4) (n .νo ∷ []) (n .δo) o) ∷ ‵ (Owned u32 Lw (named 5) (n .νw ∷ []) (n .δw) w) ∷ []) ∵
       says ! ok $ nothing ! $ move ! (1 ∷ 2 ∷ 3 ∷ 4 ∷ 5 ∷ 6 ∷ 0 ∷ []) $ group ! 7 $ frame ! $
       -- [the stack; parents; ends; occurrences; out; own]
-      nothing ! $ owned ! usize (Is usize) (uint-makes 𝓤 H A W w64) root _ (refl, fits) $ fjoin ! $ owned ! S.the-row (Is S.the-row) (LL.makes S.the-type S′.the-plain 𝓤 H A) s _ hs $ fjoin ! $
+      nothing ! $ owned ! S.the-row (Is S.the-row) (LL.makes S.the-type S′.the-plain 𝓤 H A) s _ hs $ fjoin ! $
       move ! (6 ∷ 0 ∷ []) $ fjoin ! $ move ! (5 ∷ 0 ∷ []) $ fjoin ! $ move ! (4 ∷ 0 ∷ []) $ fjoin ! $ move ! (3 ∷ 0 ∷ []) $ fjoin ! $ move ! (2 ∷ 0 ∷ []) $ fjoin ! $ move ! (1 ∷ 0 ∷ []) $ fjoin ! $ done !
 
   abbrev Kept-pass : Names → List Entry → List ℕ → List ℕ → Item 𝓤
   Kept-pass n ys o w = ‵ (Lent T.the-row Ls (n .νs) (n .δs) ys) ⊛ ‵ (Lent u32 Lo (n .νo) (n .δo) o) ⊛ ‵ (Lent u32 Lw (n .νw) (n .δw) w) ⊛ ‵ (Seen Lp (named 0)) ⊛ ‵ (Seen Le (named 2)) ⊛ ‵ (Seen Lq (named 3)) ⊛ ‵ (Looks Lt (named 1))
 
-  opens-pass : (ys : List Entry) (o w : List ℕ) (s : State) (root : ℕ) → PassPre J ys o w s root → IsS s → root < 2 ^ 64
-      → ent 𝓤 (mean 𝓤 H A (All ys o w)) (H .⇛ (ex 𝓤 (λ (n : Names). sep 𝓤 (Pass 𝓤 H A mem run .pre (to-pass n ys o w s root)) (mean 𝓤 H A (Kept-pass n ys o w)))))
-  opens-pass ys o w s root ok hs fits =
+  opens-pass : (ys : List Entry) (o w : List ℕ) (s : State) → PassPre J ys o w s → IsS s
+      → ent 𝓤 (mean 𝓤 H A (All ys o w)) (H .⇛ (ex 𝓤 (λ (n : Names). sep 𝓤 (Pass 𝓤 H A mem run .pre (to-pass n ys o w s)) (mean 𝓤 H A (Kept-pass n ys o w)))))
+  opens-pass ys o w s ok hs =
       qed W (‵ (Hold T.the-row Ls (named 4) ys) ∷ ‵ (Hold u32 Lo (named 5) o) ∷ ‵ (Hold u32 Lw (named 6) w) ∷ ‵ (Looks Lp (named 0)) ∷ ‵ (Looks Lt (named 1)) ∷ ‵ (Looks Le (named 2)) ∷ ‵ (Looks Lq (named 3)) ∷ []) ∵ updating ! $
       use1 W (later (some (λ (ν : ℕ). some (λ (δ : GName). ‵ (flft (ν ∷ []) fullShare) ⊛ ‵ (Owned T.the-row Ls (named 0) (ν ∷ []) δ ys) ⊛ ‵ (Lent T.the-row Ls ν δ ys))))) (lends T.the-row Ls 𝓤 H A W (named 4) (named 0) ys) $ await ! tt $ pick ! (λ νs. pick ! (λ δs. split3 ! $
       move ! (3 ∷ []) $ use1 W (later (some (λ (ν : ℕ). some (λ (δ : GName). ‵ (flft (ν ∷ []) fullShare) ⊛ ‵ (Owned u32 Lo (named 4) (ν ∷ []) δ o) ⊛ ‵ (Lent u32 Lo ν δ o))))) (lends u32 Lo 𝓤 H A W (named 5) (named 4) o) $ await ! tt $ pick ! (λ νo. pick ! (λ δo. split3 ! $
@@ -263,8 +264,8 @@ module _ {M : Type 1} (𝓤 : URA M) (H : Heap 𝓤) (A : Atoms 𝓤) (W : Given
       move ! (16 ∷ []) $ use1 W (‵ (flft (Lq .κ) (Lq .q)) ⊛ ‵ (Seen Lq (named 3)) ⊛ ‵ (Seen Lq (named 3))) (looks-twice Lq 𝓤 H A W (named 3)) $ split3 ! $
       -- of occurrences, ends and parents each the token and twice the slice; of own, out and the stack each the token, what is lent and what is kept; then tags
       move ! (15 ∷ 6 ∷ 3 ∷ 0 ∷ 12 ∷ 9 ∷ 16 ∷ 7 ∷ 4 ∷ 1 ∷ 13 ∷ 10 ∷ 17 ∷ 14 ∷ 11 ∷ 8 ∷ 5 ∷ 2 ∷ 18 ∷ []) $ group ! 12 $
-      use1 W (raw (Pass 𝓤 H A mem run .pre (to-pass (record { νs = νs; δs = δs; νo = νo; δo = δo; νw = νw; δw = δw }) ys o w s root))) (goes-pass (record { νs = νs; δs = δs; νo = νo; δo = δo; νw = νw; δw = δw }) ys o w s root ok hs fits) $
-      at-once ! $ show ! (λ (n : Names). sep 𝓤 (Pass 𝓤 H A mem run .pre (to-pass n ys o w s root)) (mean 𝓤 H A (Kept-pass n ys o w))) (record { νs = νs; δs = δs; νo = νo; δo = δo; νw = νw; δw = δw }) $ frame ! $ done !))))))
+      use1 W (raw (Pass 𝓤 H A mem run .pre (to-pass (record { νs = νs; δs = δs; νo = νo; δo = δo; νw = νw; δw = δw }) ys o w s))) (goes-pass (record { νs = νs; δs = δs; νo = νo; δo = δo; νw = νw; δw = δw }) ys o w s ok hs) $
+      at-once ! $ show ! (λ (n : Names). sep 𝓤 (Pass 𝓤 H A mem run .pre (to-pass n ys o w s)) (mean 𝓤 H A (Kept-pass n ys o w))) (record { νs = νs; δs = δs; νo = νo; δo = δo; νw = νw; δw = δw }) $ frame ! $ done !))))))
 
   -- what `pass` gave, and what it left
   record After : Type 0 where
@@ -286,12 +287,12 @@ module _ {M : Type 1} (𝓤 : URA M) (H : Heap 𝓤) (A : Atoms 𝓤) (W : Given
     out : Room u32 (length o)
     own : Room u32 (length w)
 
-  closes-pass : (n : Names) (ys : List Entry) (o w : List ℕ) (s : State) (root : ℕ) (v : Val) → Rooms ys o w
-      → ent 𝓤 (sep 𝓤 (Pass 𝓤 H A mem run .post (to-pass n ys o w s root) v) (mean 𝓤 H A (Kept-pass n ys o w))) (H .⇛ (ex 𝓤 (λ (r : After). guard 𝓤 (Gave ys o w s v r) (mean 𝓤 H A (All (r .stack) (r .out) (r .own))))))
-  closes-pass n ys o w s root v room =
+  closes-pass : (n : Names) (ys : List Entry) (o w : List ℕ) (s : State) (v : Val) → Rooms ys o w
+      → ent 𝓤 (sep 𝓤 (Pass 𝓤 H A mem run .post (to-pass n ys o w s) v) (mean 𝓤 H A (Kept-pass n ys o w))) (H .⇛ (ex 𝓤 (λ (r : After). guard 𝓤 (Gave ys o w s v r) (mean 𝓤 H A (All (r .stack) (r .out) (r .own))))))
+  closes-pass n ys o w s v room =
       qed W (later (some (λ (r : State). ((‵ (flft (n .νs ∷ []) fullShare) ⊛ ‵ (flft (Lp .κ) (Lp .q)) ⊛ ‵ (flft (Le .κ) (Le .q)) ⊛ ‵ (flft (Lq .κ) (Lq .q)) ⊛ ‵ (flft (n .νo ∷ []) fullShare) ⊛ ‵ (flft (n .νw ∷ []) fullShare) ⊛ ‵ ftrue)
-      ⊛ ‵ (S.the-row .own r (v ∷ []))) ⊛ raw (ensured 𝓤 H A pass′.ended (pass′.clauses 𝓤 H A mem run) (six n) (passing n ys o w s root) tt r))) ∷ ‵ (Lent T.the-row Ls (n .νs) (n .δs) ys) ∷ ‵ (Lent u32 Lo (n .νo) (n .δo) o) ∷ ‵ (Lent u32 Lw (n .νw) (n .δw) w) ∷ ‵ (Seen Lp (named 0)) ∷ ‵ (Seen Le (named 2)) ∷ ‵ (Seen Lq (named 3)) ∷ ‵ (Looks Lt (named 1)) ∷ []) ∵ updating ! $ await ! tt $ pick ! (λ r. split ! $ move ! (1 ∷ []) $
-      use1 W (some (λ (zs : List Entry × (Unit {0} × (Unit {0} × (Unit {0} × (List ℕ × (List ℕ × (Unit {0} × (Unit {0} × Unit {0})))))))). ‵ (lasts pass′.ended (six n) (passing n ys o w s root) zs)
+      ⊛ ‵ (S.the-row .own r (v ∷ []))) ⊛ raw (ensured 𝓤 H A pass′.ended (pass′.clauses 𝓤 H A mem run) (six n) (passing n ys o w s) tt r))) ∷ ‵ (Lent T.the-row Ls (n .νs) (n .δs) ys) ∷ ‵ (Lent u32 Lo (n .νo) (n .δo) o) ∷ ‵ (Lent u32 Lw (n .νw) (n .δw) w) ∷ ‵ (Seen Lp (named 0)) ∷ ‵ (Seen Le (named 2)) ∷ ‵ (Seen Lq (named 3)) ∷ ‵ (Looks Lt (named 1)) ∷ []) ∵ updating ! $ await ! tt $ pick ! (λ r. split ! $ move ! (1 ∷ []) $
+      use1 W (some (λ (zs : List Entry × (Unit {0} × (Unit {0} × (Unit {0} × (List ℕ × (List ℕ × (Unit {0} × Unit {0}))))))). ‵ (lasts pass′.ended (six n) (passing n ys o w s) zs)
       ⊛ raw (fact 𝓤 (Passed J ys o w s r (zs .0) (zs .1 .1 .1 .1 .0) (zs .1 .1 .1 .1 .1 .0))))) (id⊢ 𝓤 _) $ pick ! (λ zs. split ! $ move ! (1 ∷ []) $
       heard ! (Passed J ys o w s r (zs .0) (zs .1 .1 .1 .1 .0) (zs .1 .1 .1 .1 .1 .0)) (λ said.
       fsplit ! $ fsplit ! $ move ! (1 ∷ []) $ feqL ! (λ long-s. move ! (1 ∷ []) $ fsplit ! $ drop ! $ fsplit ! $ drop ! $ fsplit ! $ drop ! $
@@ -447,8 +448,8 @@ module _ {M : Type 1} (𝓤 : URA M) (H : Heap 𝓤) (A : Atoms 𝓤) (W : Given
           assigns ! (addr ! (from ! (fld ! refl (hop ! (look-in ! 26 (sub ! 0 refl (whole !))) (stop !))))) (from ! (stop !)) (init ! 2 refl (tt, tt)) $
           assigns ! (agg ! (and-then ! (load ! (from ! (stop !)) (look ! 2 refl)) (and-then ! (load ! (from ! (fld ! refl (stop !))) (look-in ! 26 (sub ! 1 refl (whole !)))) (no-more !)))) (from ! (stop !)) (init ! 1 refl (tt, (tt, (record { fits = rooms .stack .0 }, tt)))) $
           rewrite ! 1 (λ (m : ℕ). ‵ (fat fullShare (entriesTy erased) (l 32) 0 (sliceVal (Ls .b, Ls .o) m))) (sym (long .stack)) refl $
-          use1 W (later (some (λ (ν : ℕ). some (λ (δ : GName). raw (Clear 𝓤 H A mem run .pre (to-clear ν δ ys (c .cells))) ⊛ Kept-clear ν δ ys o w)))) (opens-clear ys o w (c .cells) fit (are .1 .1 .1 .0 .1)) $ await ! tt $ pick ! (λ ν. pick ! (λ δ. split ! $
-          calls-at ! fm (Clear 𝓤 H A mem run) (known .clear) (to-clear ν δ ys (c .cells)) (and-then ! (load ! (from ! (stop !)) (look ! 2 refl)) (and-then ! (load ! (from ! (fld ! refl (stop !))) (look-in ! 21 (sub ! 3 refl (whole !)))) (no-more !))) (λ v.
+          use1 W (later (some (λ (ν : ℕ). some (λ (δ : GName). raw (Clear 𝓤 H A mem run .pre (to-clear ν δ ys (c .cells))) ⊛ Kept-clear ν δ ys o w)))) (opens-clear ys o w (c .cells) fit (are .1 .1 .0 .1)) $ await ! tt $ pick ! (λ ν. pick ! (λ δ. split ! $
+          calls-at ! fm (Clear 𝓤 H A mem run) (known .clear) (to-clear ν δ ys (c .cells)) (and-then ! (load ! (from ! (stop !)) (look ! 2 refl)) (and-then ! (load ! (from ! (fld ! refl (stop !))) (look-in ! 21 (sub ! 2 refl (whole !)))) (no-more !))) (λ v.
           use2 W (later (some (λ (zs : List Entry). given (Cleared ys (c .cells) v zs) (All zs o w)))) (closes-clear ν δ ys o w (c .cells) v room) $ await ! tt $ pick ! (λ zs. learn ! (λ gave.
           land ! (from ! (stop !)) (init ! 3 refl (nothing-lawful 𝓤 H A W .typed tt (v ∷ []) (gave .is) .0)) $
           assigns ! (of-opd ! (load ! (from ! (fld ! refl (stop !))) (look-in ! 20 (sub ! 0 refl (whole !))))) (from ! (stop !)) (init ! 33 refl (LL.lawful R.the-type R′.the-laws 𝓤 H A W .typed (c .reply) _ (are .0) .0)) $
@@ -457,7 +458,7 @@ module _ {M : Type 1} (𝓤 : URA M) (H : Heap 𝓤) (A : Atoms 𝓤) (W : Given
           by ! (exits zs o w (c .reply) (record { stack = gave .long ∙ long .stack; out = long .out; own = long .own }) (found zs (gave .said)) (are .0)))))))
 
       -- the second pass, and what follows it
-      again : (a c : Plan) (r : State) → IsP c → (ys : List Entry) (o w : List ℕ) → Long ys o w → PassPre J ys o w (c .state) (c .root)
+      again : (a c : Plan) (r : State) → IsP c → (ys : List Entry) (o w : List ℕ) → Long ys o w → PassPre J ys o w (c .state)
           → ((r₂ : State) (ys₂ : List Entry) (o₂ w₂ : List ℕ) → Passed J ys o w (c .state) r₂ ys₂ o₂ w₂ → c .cells ≤ length ys₂)
           → ((r₂ : State) (ys₂ : List Entry) (o₂ w₂ : List ℕ) → Passed J ys o w (c .state) r₂ ys₂ o₂ w₂ → (zs : List Entry) → zs ≡ blanked (c .cells) ys₂ → Searched I smallest ys₀ o₀ w₀ (c .reply) zs o₂ w₂)
           → ent 𝓤 (⋆ 𝓤 H A (At (holds (machP a)) (holds (machS r)) (holds (machP c)) ys o w)) (Wp 𝓤 H C Λ En code.Mir.t-14 (atReturn 𝓤 H En Post))
@@ -474,9 +475,9 @@ module _ {M : Type 1} (𝓤 : URA M) (H : Heap 𝓤) (A : Atoms 𝓤) (W : Given
           rewrite ! 8 (λ (m : ℕ). ‵ (fat fullShare (entriesTy erased) (l 25) 0 (sliceVal (Ls .b, Ls .o) m))) (sym (long .stack)) refl $
           rewrite ! 6 (λ (m : ℕ). ‵ (fat fullShare (lentTy erased) (l 27) 0 (sliceVal (Lo .b, Lo .o) m))) (sym (long .out)) refl $
           rewrite ! 4 (λ (m : ℕ). ‵ (fat fullShare (lentTy erased) (l 29) 0 (sliceVal (Lw .b, Lw .o) m))) (sym (long .own)) refl $
-          use1 W (later (some (λ (n : Names). raw (Pass 𝓤 H A mem run .pre (to-pass n ys o w (c .state) (c .root))) ⊛ Kept-pass n ys o w))) (opens-pass ys o w (c .state) (c .root) ok (are .1 .0) (are .1 .1 .0 .1)) $ await ! tt $ pick ! (λ n. split ! $
-          calls-at ! fm (Pass 𝓤 H A mem run) (known .pass) (to-pass n ys o w (c .state) (c .root)) (and-then ! (load ! (from ! (stop !)) (look ! 9 refl)) (and-then ! (load ! (from ! (stop !)) (look ! 33 refl)) (and-then ! (load ! (from ! (stop !)) (look ! 29 refl)) (and-then ! (load ! (from ! (stop !)) (look ! 28 refl)) (and-then ! (load ! (from ! (stop !)) (look ! 7 refl)) (and-then ! (load ! (from ! (stop !)) (look ! 5 refl)) (and-then ! (load ! (from ! (fld ! refl (stop !))) (look-in ! 21 (sub ! 1 refl (whole !)))) (and-then ! (load ! (from ! (fld ! refl (stop !))) (look-in ! 21 (sub ! 2 refl (whole !)))) (no-more !))))))))) (λ v.
-          use2 W (later (some (λ (z : After). given (Gave ys o w (c .state) v z) (All (z .stack) (z .out) (z .own))))) (closes-pass n ys o w (c .state) (c .root) v roomsU) $ await ! tt $ pick ! (λ z. learn ! (λ gave.
+          use1 W (later (some (λ (n : Names). raw (Pass 𝓤 H A mem run .pre (to-pass n ys o w (c .state))) ⊛ Kept-pass n ys o w))) (opens-pass ys o w (c .state) ok (are .1 .0)) $ await ! tt $ pick ! (λ n. split ! $
+          calls-at ! fm (Pass 𝓤 H A mem run) (known .pass) (to-pass n ys o w (c .state)) (and-then ! (load ! (from ! (stop !)) (look ! 9 refl)) (and-then ! (load ! (from ! (stop !)) (look ! 33 refl)) (and-then ! (load ! (from ! (stop !)) (look ! 29 refl)) (and-then ! (load ! (from ! (stop !)) (look ! 28 refl)) (and-then ! (load ! (from ! (stop !)) (look ! 7 refl)) (and-then ! (load ! (from ! (stop !)) (look ! 5 refl)) (and-then ! (load ! (from ! (fld ! refl (stop !))) (look-in ! 21 (sub ! 1 refl (whole !)))) (no-more !)))))))) (λ v.
+          use2 W (later (some (λ (z : After). given (Gave ys o w (c .state) v z) (All (z .stack) (z .out) (z .own))))) (closes-pass n ys o w (c .state) v roomsU) $ await ! tt $ pick ! (λ z. learn ! (λ gave.
           land ! (from ! (stop !)) (init ! 10 refl (LL.lawful S.the-type S′.the-laws 𝓤 H A W .typed (z .state) _ (gave .is) .0)) $
           empties-from 𝓤 H A W 14 locals (held empty (holds _) (holds _) (holds _) (empty ∷ empty ∷ empty ∷ empty ∷ empty ∷ empty ∷ empty ∷ empty ∷ empty ∷ holds _ ∷ holds _ ∷ holds _ ∷ holds _ ∷ holds _ ∷ holds _ ∷ holds _ ∷ [])) l (All (z .stack) (z .out) (z .own) ∷ []) (raw (diesOf 𝓤 H A W locals l) ∷ []) _ $
           by ! (clears a c r hc (z .stack) (z .out) (z .own) (record { stack = gave .stackLong ∙ long .stack; out = gave .outLong ∙ long .out; own = gave .ownLong ∙ long .own })
@@ -519,9 +520,9 @@ module _ {M : Type 1} (𝓤 : URA M) (H : Heap 𝓤) (A : Atoms 𝓤) (W : Given
           assigns ! (agg ! (and-then ! (load ! (from ! (stop !)) (look ! 16 refl)) (and-then ! (load ! (from ! (fld ! refl (stop !))) (look-in ! 25 (sub ! 1 refl (whole !)))) (no-more !)))) (from ! (stop !)) (init ! 15 refl (tt, (tt, (record { fits = rooms .out .0 }, tt)))) $
           assigns ! (addr ! (from ! (fld ! refl (hop ! (look-in ! 24 (sub ! 0 refl (whole !))) (stop !))))) (from ! (stop !)) (init ! 14 refl (tt, tt)) $
           assigns ! (agg ! (and-then ! (load ! (from ! (stop !)) (look ! 14 refl)) (and-then ! (load ! (from ! (fld ! refl (stop !))) (look-in ! 24 (sub ! 1 refl (whole !)))) (no-more !)))) (from ! (stop !)) (init ! 13 refl (tt, (tt, (record { fits = rooms .own .0 }, tt)))) $
-          use1 W (later (some (λ (n : Names). raw (Pass 𝓤 H A mem run .pre (to-pass n ys₀ o₀ w₀ (plan₁ .state) (plan₁ .root))) ⊛ Kept-pass n ys₀ o₀ w₀))) (opens-pass ys₀ o₀ w₀ (plan₁ .state) (plan₁ .root) (first-pre (now (Lp .d)) (now (Lt .d)) p q (now (Le .d)) (now (Lq .d)) smallest ys₀ o₀ w₀) (are .1 .0) (are .1 .1 .0 .1)) $ await ! tt $ pick ! (λ n. split ! $
-          calls-at ! fm (Pass 𝓤 H A mem run) (known .pass) (to-pass n ys₀ o₀ w₀ (plan₁ .state) (plan₁ .root)) (and-then ! (load ! (from ! (stop !)) (look ! 18 refl)) (and-then ! (load ! (from ! (stop !)) (look ! 33 refl)) (and-then ! (load ! (from ! (stop !)) (look ! 29 refl)) (and-then ! (load ! (from ! (stop !)) (look ! 28 refl)) (and-then ! (load ! (from ! (stop !)) (look ! 16 refl)) (and-then ! (load ! (from ! (stop !)) (look ! 14 refl)) (and-then ! (load ! (from ! (fld ! refl (stop !))) (look-in ! 23 (sub ! 1 refl (whole !)))) (and-then ! (load ! (from ! (fld ! refl (stop !))) (look-in ! 23 (sub ! 2 refl (whole !)))) (no-more !))))))))) (λ v.
-          use2 W (later (some (λ (z : After). given (Gave ys₀ o₀ w₀ (plan₁ .state) v z) (All (z .stack) (z .out) (z .own))))) (closes-pass n ys₀ o₀ w₀ (plan₁ .state) (plan₁ .root) v rooms) $ await ! tt $ pick ! (λ z. learn ! (λ gave.
+          use1 W (later (some (λ (n : Names). raw (Pass 𝓤 H A mem run .pre (to-pass n ys₀ o₀ w₀ (plan₁ .state))) ⊛ Kept-pass n ys₀ o₀ w₀))) (opens-pass ys₀ o₀ w₀ (plan₁ .state) (first-pre (now (Lp .d)) (now (Lt .d)) p q (now (Le .d)) (now (Lq .d)) smallest ys₀ o₀ w₀) (are .1 .0)) $ await ! tt $ pick ! (λ n. split ! $
+          calls-at ! fm (Pass 𝓤 H A mem run) (known .pass) (to-pass n ys₀ o₀ w₀ (plan₁ .state)) (and-then ! (load ! (from ! (stop !)) (look ! 18 refl)) (and-then ! (load ! (from ! (stop !)) (look ! 33 refl)) (and-then ! (load ! (from ! (stop !)) (look ! 29 refl)) (and-then ! (load ! (from ! (stop !)) (look ! 28 refl)) (and-then ! (load ! (from ! (stop !)) (look ! 16 refl)) (and-then ! (load ! (from ! (stop !)) (look ! 14 refl)) (and-then ! (load ! (from ! (fld ! refl (stop !))) (look-in ! 23 (sub ! 1 refl (whole !)))) (no-more !)))))))) (λ v.
+          use2 W (later (some (λ (z : After). given (Gave ys₀ o₀ w₀ (plan₁ .state) v z) (All (z .stack) (z .out) (z .own))))) (closes-pass n ys₀ o₀ w₀ (plan₁ .state) v rooms) $ await ! tt $ pick ! (λ z. learn ! (λ gave.
           let told : v ∷ [] ≡ machS (z .state) ∷ [] = LL.tells S.the-type S′.the-laws (z .state) (v ∷ []) (gave .is) in
           land ! (from ! (stop !)) (init ! 21 refl (LL.lawful S.the-type S′.the-laws 𝓤 H A W .typed (z .state) _ (gave .is) .0)) $ rewrite ! 21 (λ (x : Val). ‵ (fat fullShare S′.mir (l 12) 0 x)) (ap only told) refl $
           empties-from 𝓤 H A W 13 locals (held empty (holds _) (holds _) empty (empty ∷ holds _ ∷ holds _ ∷ holds _ ∷ holds _ ∷ holds _ ∷ holds _ ∷ [])) l (All (z .stack) (z .out) (z .own) ∷ []) (raw (diesOf 𝓤 H A W locals l) ∷ []) _ $

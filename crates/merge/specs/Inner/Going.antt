@@ -27,7 +27,7 @@ use Rattle.merge.specs.declared.Entry.{Entry}
 use Rattle.merge.specs.declared.steps.State.{State}
 use Rattle.merge.specs.declared.steps.Step.{Step}
 use Rattle.merge.specs.Inner.Entries.{fresh}
-use Rattle.merge.specs.Inner.Cursors.{head, upTo, coming, lastLeft, stands, Highest}
+use Rattle.merge.specs.Inner.Cursors.{head, upTo, lastLeft, Highest}
 use Rattle.merge.specs.Inner.Meaning.{nodeAt, Standing}
 
 pub record Job : Type 0 where
@@ -80,15 +80,14 @@ pub record Sound (J : Job) : Type 0 where
 
 -- ---- the cursors
 pub record Reaching (J : Job) (r : ℕ) (c : List ℕ) : Type 0 where
-  pub long : length c ≡ 24
+  pub long : length c ≡ 16
   pub begins : (j : ℕ) → j < wordsOf J → start (J .ends) j ≤ upTo c j
   pub within : (j : ℕ) → j < wordsOf J → upTo c j ≤ getD (J .ends) j 0
   pub heads : (j : ℕ) → j < wordsOf J → head c j ≡ lastLeft (J .occurrences) (start (J .ends) j) (upTo c j)
   pub highest : Highest (wordsOf J) (head c) r
   -- what has been taken stands from r on
   pub met : (j i : ℕ) → j < wordsOf J → upTo c j ≤ i → i < getD (J .ends) j 0 → r ≤ getD (J .occurrences) i 0
-  pub comes : (j : ℕ) → j < wordsOf J → coming c j ≡ cond (stands c r j) 1 0
-  pub others : (j : ℕ) → wordsOf J ≤ j → j < 8 → (head c j ≡ 0) × (coming c j ≡ 0)
+  pub others : (j : ℕ) → wordsOf J ≤ j → j < 8 → head c j ≡ 0
 
 -- ---- a pass
 -- How many answers have been met: where the pass is over, all.
@@ -127,6 +126,10 @@ pub record Kept (J : Job) (u u′ : World) : Type 0 where
   pub out : StaysFrom (u .state .left) (u .out) (u′ .out)
   pub own : StaysFrom (u .state .left * wordsOf J) (u .own) (u′ .own)
   pub noOwn : u .state .smallest ≡ true → u′ .own ≡ u .own
+
+-- The world once the top t stands in its place.
+abbrev pub opened : World → Entry → World
+opened v t = record { stack = set (v .stack) (v .state .at) t; cursors = v .cursors; out = v .out; own = v .own; state = v .state }
 
 -- The world after a step that gave n, with cursors, out and own as they are then: the new top stands in its place.
 abbrev pub stepped : World → Step → List ℕ → List ℕ → List ℕ → World

@@ -1,13 +1,13 @@
 -- A pass over the lists, and what is planned before and after it.
 --   job, world           == what a call's arguments lend, as one
 --   RunPre, Ran          == a run of steps: nothing where there is none to make; else up to the end of the pass
---   Begun                == the state and the cursors before the first step
---   Plan                 == the reply so far, the state in which the next pass begins, how many entries it opens, and how many are zeroed at the end
+--   Begun                == the state, the top and the cursors before the first step
+--   Plan                 == the reply so far, the state in which the next pass begins, and how many entries of the stack are zeroed at the end
 --   firstPlan I s b      == the plan once the index has been checked
 --   nextPlan a m k o w   == the plan once m answers have been counted, for buffers of these lengths
 --   PassPre, Passed      == a pass: answers are counted, or written
 --   Searched …           == a whole search, for the smallest or for the exclusive ones
--- Letters: J job, u world; I index, b whether the smallest are listed; ys, c, o, w stack, cursors, out and own; s state, m answers, k words. Assumes nothing.
+-- Letters: J job, u, v worlds, t top; I index, b whether the smallest are listed; ys, c, o, w stack, cursors, out and own; s state, m answers, k words. Assumes nothing.
 use Prim.Native.Nat.{ℕ, _*_, _≤_}
 use mathlib.Core.Path.{_≡_}
 use mathlib.Core.List.{List}
@@ -15,20 +15,20 @@ use mathlib.Core.Bool.{Bool, true, false, cond, _&&_, _||_}
 use lib.Dec.{eqb, leb}
 use lib.ListN.{length, getD}
 use Rattle.seq.specs.Memory.{over}
-use Rattle.tree.specs.Rules.{treeBad}
 use Rattle.index.specs.declared.Reply.{Reply}
 use Rattle.index.specs.Index.{Index}
-use Rattle.index.specs.Rules.{listsBad}
-use Rattle.index.specs.Replies.{accepted, TREE, LIST, ROOM, totalled, refusing, keptOr}
+use Rattle.index.specs.Replies.{accepted, SIZE, ROOM, totalled, keptOr}
+use Rattle.depot.specs.Depot.{depotChecked}
 use Rattle.answers.specs.Searches.{isElca, isSlca, outOf, ownOf, roomed, outFits, ownFits}
 use Rattle.merge.specs.declared.Entry.{Entry}
 use Rattle.merge.specs.declared.plans.Plan.{Plan}
 use Rattle.merge.specs.declared.steps.State.{State}
-use Rattle.merge.specs.Merge.{mergeSizeOk, mergeChecked, stackAfter}
+use Rattle.merge.specs.declared.steps.Step.{Step}
+use Rattle.merge.specs.Merge.{stackAfter}
 use Rattle.merge.specs.Inner.Entries.{fresh}
 use Rattle.merge.specs.Inner.Cursors.{SetPre, Set}
 use Rattle.merge.specs.Inner.Steps.{moved}
-use Rattle.merge.specs.Inner.Going.{Job, World, wordsOf, answersOf, total, ownRows, Sound, Going, Kept}
+use Rattle.merge.specs.Inner.Going.{Job, World, wordsOf, answersOf, total, ownRows, Sound, Going, Kept, opened}
 
 abbrev pub job : List ℕ → List ℕ → List ℕ → Job
 job p ends occ = record { parents = p; ends = ends; occurrences = occ }
@@ -37,10 +37,11 @@ abbrev pub world : List Entry → List ℕ → List ℕ → List ℕ → State �
 world ys c o w s = record { stack = ys; cursors = c; out = o; own = w; state = s }
 
 -- ---- a run of steps
-pub record RunPre (J : Job) (u : World) : Type 0 where
-  pub going : u .state .on ≡ true → Going J u
+-- The top is not yet in its place.
+pub record RunPre (J : Job) (v : World) (t : Entry) : Type 0 where
+  pub going : v .state .on ≡ true → Going J (opened v t)
   -- where answers are written, all are left to write
-  pub whole : u .state .on ≡ true → u .state .fill ≡ true → u .state .left ≡ total J (u .state .smallest)
+  pub whole : v .state .on ≡ true → v .state .fill ≡ true → v .state .left ≡ total J (v .state .smallest)
 
 pub record Ran (J : Job) (u u′ : World) : Type 0 where
   pub idle : u .state .on ≡ false → u′ ≡ u
@@ -48,25 +49,24 @@ pub record Ran (J : Job) (u u′ : World) : Type 0 where
   pub going : u .state .on ≡ true → Going J u′
   pub kept : u .state .on ≡ true → Kept J u u′
 
--- ---- the first state of a pass
+-- ---- the first step of a pass
 pub record BeginPre (ends occ c : List ℕ) (s : State) : Type 0 where
   pub set : s .on ≡ true → SetPre ends occ c
 
-pub record Begun (ends occ c : List ℕ) (s r : State) (c′ : List ℕ) : Type 0 where
-  pub idle : s .on ≡ false → (r ≡ s) × (c′ ≡ c)
-  pub state : s .on ≡ true → r ≡ moved s true (s .at) (s .low) (r .reach) (s .left)
-  pub cursors : s .on ≡ true → Set ends occ c (r .reach) c′
+pub record Begun (ends occ c : List ℕ) (s : State) (n : Step) (c′ : List ℕ) : Type 0 where
+  pub root : n .top ≡ fresh 0
+  pub idle : s .on ≡ false → (n .state ≡ s) × (c′ ≡ c)
+  pub state : s .on ≡ true → n .state ≡ moved s true (s .at) (s .low) (n .state .reach) (s .left)
+  pub cursors : s .on ≡ true → Set ends occ c (n .state .reach) c′
 
 -- ---- a pass
 -- The root is open and has counted nothing.
 abbrev pub starting : Bool → Bool → Bool → ℕ → State
 starting on b fill m = record { on = on; at = 0; low = 0; reach = 0; left = m; smallest = b; fill = fill }
 
--- There is a first entry to open, and where answers are written there is room for all of them.
-pub record PassPre (J : Job) (ys : List Entry) (o w : List ℕ) (s : State) (root : ℕ) : Type 0 where
+-- Where answers are written there is room for all of them.
+pub record PassPre (J : Job) (ys : List Entry) (o w : List ℕ) (s : State) : Type 0 where
   pub state : s ≡ starting (s .on) (s .smallest) (s .fill) (s .left)
-  pub idle : s .on ≡ false → root ≡ 0
-  pub opens : s .on ≡ true → root ≡ 1
   pub sound : s .on ≡ true → Sound J
   pub wide : s .on ≡ true → 64 ≤ length ys
   pub counts : s .on ≡ true → s .fill ≡ false → s .left ≡ 0
@@ -84,24 +84,16 @@ pub record Passed (J : Job) (ys : List Entry) (o w : List ℕ) (s r : State) (ys
   pub noOwn : s .on ≡ true → s .fill ≡ true → s .smallest ≡ true → w′ ≡ w
 
 -- ---- plans
--- TREE and LIST, where nothing gives SIZE: there are at most 65,536 nodes and 8 words.
-pub record JudgePre (p ends : List ℕ) : Type 0 where
-  pub nodes : length p ≤ 65536
-  pub words : length ends ≤ 8
-
-unfoldable pub judged : List ℕ → List ℕ → List ℕ → List ℕ → Reply
-judged p t ends occ = refusing TREE (treeBad p t) (length p) (refusing LIST (listsBad (length p) ends occ) (length ends) (totalled accepted 0))
-
-unfoldable pub planAt : Reply → Bool → ℕ → Plan
-planAt r b cells = record {
+-- After the reply of the checks. The stack is zeroed under every reply but SIZE.
+unfoldable pub planAt : Reply → Bool → Plan
+planAt r b = record {
   reply = r;
   state = starting (eqb (r .refusal) accepted) b false 0;
-  root = cond (eqb (r .refusal) accepted) 1 0;
-  cells = cells;
+  cells = cond (eqb (r .refusal) SIZE) 0 64;
 }
 
 unfoldable pub firstPlan : Index → ℕ → Bool → Plan
-firstPlan I s b = planAt (mergeChecked I s (totalled accepted 0)) b (cond (mergeSizeOk I s) 64 0)
+firstPlan I s b = planAt (depotChecked I s (totalled accepted 0)) b
 
 pub record FitsPre (m k : ℕ) : Type 0 where
   pub answers : m ≤ 65536
@@ -122,7 +114,6 @@ nextPlan a m k o w =
     (record {
       reply = totalled (cond (fitting (a .state .smallest) m k o w) accepted ROOM) m;
       state = starting (fitting (a .state .smallest) m k o w) (a .state .smallest) true m;
-      root = cond (fitting (a .state .smallest) m k o w) 1 0;
       cells = a .cells;
     })
     a
@@ -134,7 +125,7 @@ isListed I b = cond b (isSlca I) (isElca I)
 
 -- The stack, out and own were ys, o and w, and are ys′, o′ and w′. Own takes no part where the smallest are listed.
 pub record Searched (I : Index) (b : Bool) (ys : List Entry) (o w : List ℕ) (r : Reply) (ys′ : List Entry) (o′ w′ : List ℕ) : Type 0 where
-  pub reply : r ≡ mergeChecked I (length ys) (roomed I (isListed I b) (outFits I (isListed I b) o && (b || ownFits I (isListed I b) w)))
+  pub reply : r ≡ depotChecked I (length ys) (roomed I (isListed I b) (outFits I (isListed I b) o && (b || ownFits I (isListed I b) w)))
   pub stack : ys′ ≡ stackAfter I ys
   pub out : o′ ≡ keptOr r (outOf I (isListed I b)) o
   pub own : w′ ≡ cond b w (keptOr r (ownOf I (isListed I b)) w)

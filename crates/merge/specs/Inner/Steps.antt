@@ -71,8 +71,8 @@ closedStep p k s e b =
 unfoldable pub arrivedStep : State → Entry → List ℕ → ℕ → Step
 arrivedStep s t c r′ =
     cond (eqb (t .node) (s .reach - 1))
-    (step (moved s (s .on) (s .at) (s .low) r′ (s .left)) (record { node = s .reach - 1; own = sums (t .own) (comingRow c); covered = t .covered }))
-    (step (moved s (s .on) (s .at + 1) (s .at) r′ (s .left)) (record { node = s .reach - 1; own = comingRow c; covered = replicate 8 0 }))
+    (step (moved s (s .on) (s .at) (s .low) r′ (s .left)) (record { node = s .reach - 1; own = sums (t .own) (comingRow c (s .reach)); covered = t .covered }))
+    (step (moved s (s .on) (s .at + 1) (s .at) r′ (s .left)) (record { node = s .reach - 1; own = comingRow c (s .reach); covered = replicate 8 0 }))
 
 -- ---- one step
 -- What is asked where the top is closed.
@@ -94,7 +94,7 @@ pub record ClosePre (p : List ℕ) (k : ℕ) (o w : List ℕ) (s : State) (e b :
 -- What is asked where a node comes.
 pub record ArrivePre (ends occ c : List ℕ) (s : State) (t : Entry) : Type 0 where
   pub cursors : CursorsPre ends occ c (s .reach)
-  pub counts : SumsPre (t .own) (comingRow c)
+  pub counts : SumsPre (t .own) (comingRow c (s .reach))
   pub place : s .at < 64
 
 pub record AdvancePre (p ends occ c o w : List ℕ) (s : State) (t b : Entry) : Type 0 where

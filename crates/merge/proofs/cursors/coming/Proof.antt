@@ -10,25 +10,25 @@ use Rattle.merge.proofs.cursors.coming.Statement.{statement}
 use Rattle.merge.proofs.cursors.coming.Tie as tie
 
 abbrev Inv-loop : tie.InvT-loop
-Inv-loop cursors r₀ j₀ r j = Filling (coming cursors) r₀ r j
+Inv-loop cursors reach r₀ j₀ r j = Filling (coming cursors reach) r₀ r j
 
 abbrev μ-loop : tie.MeasureT-loop
-μ-loop cursors r₀ j₀ r j = 8 - j
+μ-loop cursors reach r₀ j₀ r j = 8 - j
 
 loop-holds : tie.Need-loop-holds Inv-loop μ-loop
 loop-holds c = filling-start _ _
 
-add-at : tie.Need-add-at Inv-loop μ-loop
-add-at c = search needs
+mul-same : tie.Need-mul-same Inv-loop μ-loop
+mul-same c = search needs
+
+shared-slice-read-same : tie.Need-shared-slice-read-same Inv-loop μ-loop
+shared-slice-read-same c = search needs
+
+same-requires : tie.Need-same-requires Inv-loop μ-loop
+same-requires c κs = search needs
 
 mul-r : tie.Need-mul-r Inv-loop μ-loop
 mul-r c = search needs
-
-shared-slice-read-r : tie.Need-shared-slice-read-r Inv-loop μ-loop
-shared-slice-read-r c = search needs
-
-mul-r-2 : tie.Need-mul-r-2 Inv-loop μ-loop
-mul-r-2 c = search needs
 
 array-write-r : tie.Need-array-write-r Inv-loop μ-loop
 array-write-r c = search needs
@@ -40,10 +40,10 @@ loop-less : tie.Need-loop-less Inv-loop μ-loop
 loop-less c = search needs
 
 loop-again : tie.Need-loop-again Inv-loop μ-loop
-loop-again c = filling-step _ _ _ _ _ (c .before .before .loop .inv) (omega arith) refl
+loop-again c = filling-step _ _ _ _ _ (c .before .before .before .loop .inv) (omega arith) (c .same .ensures)
 
 returns : tie.Need-returns Inv-loop μ-loop
-returns c = coming-end _ _ _ _ (c .before .loop .inv) refl (c .loop-test .left)
+returns c = coming-end _ _ _ _ _ (c .before .loop .inv) refl (c .loop-test .left)
 
 pub coming-spec : {M : Type 1} → statement M
-coming-spec = tie.close (tie.spec Inv-loop μ-loop loop-holds add-at mul-r shared-slice-read-r mul-r-2 array-write-r add-j loop-less loop-again returns)
+coming-spec = tie.close (tie.spec Inv-loop μ-loop loop-holds mul-same shared-slice-read-same same-requires mul-r array-write-r add-j loop-less loop-again returns)

@@ -1,5 +1,6 @@
 -- `merge::plans::after` meets its contract: glue over Planning. Assumes nothing.
-use Rattle.merge.proofs.Planning.{planned-on, planned-off}
+use mathlib.Core.Logic.{⊎-elim}
+use Rattle.merge.proofs.Planning.{planned-none, planned-all}
 use Rattle.merge.proofs.plans.after.Statement.{statement}
 use Rattle.merge.proofs.plans.after.Tie as tie
 
@@ -7,13 +8,9 @@ start-requires : tie.Need-start-requires
 start-requires c κs = tt
 
 returns : tie.Need-returns
-returns c = planned-on _ _ _ _ (c .before .if1 .taken) (c .start .ensures)
-
-start-requires-2 : tie.Need-start-requires-2
-start-requires-2 c κs = tt
-
-returns-2 : tie.Need-returns-2
-returns-2 c = planned-off _ _ _ _ (c .before .if1 .left) (c .start2 .ensures)
+returns c =
+    let s = c .start .ensures in
+    ⊎-elim (λ w. planned-none _ _ _ s _ (w .0 .taken) (w .1)) (λ w. planned-all _ _ _ s _ (w .0 .left) (w .1)) (c .before .if1 .came)
 
 pub after-spec : {M : Type 1} → statement M
-after-spec = tie.close (tie.spec start-requires returns start-requires-2 returns-2)
+after-spec = tie.close (tie.spec start-requires returns)

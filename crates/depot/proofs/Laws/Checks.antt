@@ -3,48 +3,44 @@
 --   sized-words                    there are as many ends as positive words
 --   sized-any                      any reply but SIZE says that nothing is wrong with the sizes
 --   checked-size, checked-tree, checked-list, checked-all   the reply where each line is the first that applies
+--   refused-size                   the reply is SIZE exactly where the sizes are wrong
 --   Clean I s, Stopped I s         == no refusal comes before the search; one does, whatever the search would reply
 --   clean-or-stopped, clean-reply  one of them holds; the search's own reply stands where nothing comes before it
---   clean-sound                    what the engine asks holds
--- Letters: I index, s length of the stack; p parents, t tags, a positive and q negative words; r reply. Assumes nothing.
+--   check-unique                   no second reply fits the contract of `check`
+-- Letters: I index, s length of the stack, r reply. Assumes nothing.
 use Prim.Native.Nat.{ℕ, _≤_, _<_}
 use mathlib.Core.Path.{_≡_, sym, ap, _∙_}
 use mathlib.Core.Logic.{_⊎_, inl, inr, ⊎-elim}
-use mathlib.Core.List.{List}
-use mathlib.Core.Bool.{Bool, true, false, _&&_}
+use mathlib.Core.Bool.{Bool, true, false, not, _&&_}
 use native.Mathlib.Omega.{arith}
 use lib.Dec.{eqb, leb}
-use borrow.Author.Tests.{le-leb, leb-true, eq-eqb, eqb-true}
+use borrow.Author.Tests.{le-leb, leb-true, eq-eqb, ne-eqb, eqb-true}
 use lib.ListN.{length}
 use Rattle.seq.proofs.Laws.Bools.{bool-cases, bool-ext, bool-false, and-left, and-right, and-both}
 use Rattle.seq.proofs.Laws.Numbers.{less-or}
+use Rattle.seq.proofs.Laws.Outcomes.{outcome-unique}
 use Rattle.tree.specs.Rules.{treeBad}
-use Rattle.tree.proofs.Laws.Rules.{lawful-of}
 use Rattle.index.specs.declared.Reply.{Reply}
 use Rattle.index.specs.Index.{Index, nodes, words}
 use Rattle.index.specs.Rules.{listsBad}
-use Rattle.index.specs.Replies.{accepted, SIZE, TREE, LIST, refused, nodesOk, wordsOk}
-use Rattle.index.proofs.Laws.Lists.{words-kept}
+use Rattle.index.specs.Replies.{accepted, SIZE, TREE, LIST, refused, totalled, nodesOk, wordsOk}
 use Rattle.index.proofs.Laws.Replies.{refusing-yes, refusing-no}
-use Rattle.merge.specs.Plain.{MergeSized}
-use Rattle.merge.specs.Merge.{depot, mergeLengthsOk, mergeSizeOk, mergeChecked}
-use Rattle.merge.specs.Inner.Going.{Sound}
-use Rattle.merge.specs.Inner.Passes.{job}
-use Rattle.merge.proofs.Laws.Going.{sound-of}
+use Rattle.depot.specs.Depot.{depotLengthsOk, depotSizeOk, depotChecked}
+use Rattle.depot.specs.Plain.{DepotSized}
 
 -- ---- SIZE
 module _ (I : Index) (s : ℕ) where
-  module _ (e : mergeSizeOk I s ≡ true) where
+  module _ (e : depotSizeOk I s ≡ true) where
     bounds-good : (nodesOk I && wordsOk 0 I) ≡ true
-    unfolding mergeSizeOk
+    unfolding depotSizeOk
     bounds-good = and-left _ _ e
 
-    rest-good : (mergeLengthsOk I && leb 64 s) ≡ true
-    unfolding mergeSizeOk
+    rest-good : (depotLengthsOk I && leb 64 s) ≡ true
+    unfolding depotSizeOk
     rest-good = and-right (nodesOk I && wordsOk 0 I) _ e
 
-    pub sized-of : MergeSized I s
-    unfolding nodesOk wordsOk mergeLengthsOk
+    pub sized-of : DepotSized I s
+    unfolding nodesOk wordsOk depotLengthsOk
     sized-of =
         let many : (leb 1 (nodes I) && leb (nodes I) 65536) ≡ true = and-left _ _ bounds-good in
         let named : ((leb 1 (I .positive) && leb (I .positive) 8) && (leb (words I) 8 && leb (I .negative) 0)) ≡ true = and-right (nodesOk I) _ bounds-good in
@@ -59,11 +55,11 @@ module _ (I : Index) (s : ℕ) where
           noNegative = omega arith;
           tagged = eqb-true (length (I .tags)) (nodes I) (and-left _ _ lengths);
           ended = eqb-true (length (I .ends)) (words I) (and-right (eqb (length (I .tags)) (nodes I)) _ lengths);
-          stacked = leb-true 64 s (and-right (mergeLengthsOk I) _ rest-good);
+          stacked = leb-true 64 s (and-right (depotLengthsOk I) _ rest-good);
         }
 
-  pub sized-yes : MergeSized I s → mergeSizeOk I s ≡ true
-  unfolding mergeSizeOk nodesOk wordsOk mergeLengthsOk
+  pub sized-yes : DepotSized I s → depotSizeOk I s ≡ true
+  unfolding depotSizeOk nodesOk wordsOk depotLengthsOk
   sized-yes z =
       and-both _ _
       (and-both _ _
@@ -75,53 +71,69 @@ module _ (I : Index) (s : ℕ) where
       (and-both _ _ (eq-eqb (length (I .tags)) (nodes I) (z .tagged)) (eq-eqb (length (I .ends)) (words I) (z .ended)))
       (le-leb 64 s (z .stacked)))
 
-  pub sized-words : MergeSized I s → length (I .ends) ≡ I .positive
+  pub sized-words : DepotSized I s → length (I .ends) ≡ I .positive
   sized-words z = omega (arith, z .ended, z .noNegative)
 
-  pub sized-no : (MergeSized I s → ⊥) → mergeSizeOk I s ≡ false
-  sized-no h = bool-false (mergeSizeOk I s) (λ e. h (sized-of e))
+  pub sized-no : (DepotSized I s → ⊥) → depotSizeOk I s ≡ false
+  sized-no h = bool-false (depotSizeOk I s) (λ e. h (sized-of e))
 
   -- Where all else holds, the stack decides.
-  pub sized-last : (b : Bool) → b ≡ leb 64 s → (64 ≤ s → MergeSized I s) → b ≡ mergeSizeOk I s
-  sized-last b e h = bool-ext b (mergeSizeOk I s) (λ q. sized-yes (h (leb-true 64 s (sym e ∙ q)))) (λ q. e ∙ le-leb 64 s (sized-of q .stacked))
+  pub sized-last : (b : Bool) → b ≡ leb 64 s → (64 ≤ s → DepotSized I s) → b ≡ depotSizeOk I s
+  sized-last b e h = bool-ext b (depotSizeOk I s) (λ q. sized-yes (h (leb-true 64 s (sym e ∙ q)))) (λ q. e ∙ le-leb 64 s (sized-of q .stacked))
 
 -- ---- the reply where a line of the table is the first that applies
 module _ (I : Index) (s : ℕ) (r : Reply) where
-  pub checked-size : mergeSizeOk I s ≡ false → mergeChecked I s r ≡ refused SIZE 0
-  unfolding mergeChecked
+  pub checked-size : depotSizeOk I s ≡ false → depotChecked I s r ≡ refused SIZE 0
+  unfolding depotChecked
   checked-size e = rw e
 
-  pub sized-any : (mergeChecked I s r .refusal ≡ SIZE → ⊥) → MergeSized I s
-  sized-any other = ⊎-elim (λ e. sized-of I s e) (λ e. absurd (other (ap (λ (x : Reply). x .refusal) (checked-size e)))) (bool-cases (mergeSizeOk I s))
+  pub sized-any : (depotChecked I s r .refusal ≡ SIZE → ⊥) → DepotSized I s
+  sized-any other = ⊎-elim (λ e. sized-of I s e) (λ e. absurd (other (ap (λ (x : Reply). x .refusal) (checked-size e)))) (bool-cases (depotSizeOk I s))
 
-  module _ (z : mergeSizeOk I s ≡ true) where
-    pub checked-tree : treeBad (I .parents) (I .tags) < nodes I → mergeChecked I s r ≡ refused TREE (treeBad (I .parents) (I .tags))
-    unfolding mergeChecked
+  module _ (z : depotSizeOk I s ≡ true) where
+    pub checked-tree : treeBad (I .parents) (I .tags) < nodes I → depotChecked I s r ≡ refused TREE (treeBad (I .parents) (I .tags))
+    unfolding depotChecked
     checked-tree l = rw z (refusing-yes TREE _ (nodes I) _ l)
 
     module _ (t : nodes I ≤ treeBad (I .parents) (I .tags)) where
-      pub checked-list : listsBad (nodes I) (I .ends) (I .occurrences) < words I → mergeChecked I s r ≡ refused LIST (listsBad (nodes I) (I .ends) (I .occurrences))
-      unfolding mergeChecked
+      pub checked-list : listsBad (nodes I) (I .ends) (I .occurrences) < words I → depotChecked I s r ≡ refused LIST (listsBad (nodes I) (I .ends) (I .occurrences))
+      unfolding depotChecked
       checked-list l = rw z (refusing-no TREE _ (nodes I) _ t ∙ refusing-yes LIST _ (words I) _ l)
 
-      pub checked-all : words I ≤ listsBad (nodes I) (I .ends) (I .occurrences) → mergeChecked I s r ≡ r
-      unfolding mergeChecked
+      pub checked-all : words I ≤ listsBad (nodes I) (I .ends) (I .occurrences) → depotChecked I s r ≡ r
+      unfolding depotChecked
       checked-all l = rw z (refusing-no TREE _ (nodes I) _ t ∙ refusing-no LIST _ (words I) _ l)
+
+    -- Only the search itself could reply SIZE then.
+    checked-other : (r .refusal ≡ SIZE → ⊥) → depotChecked I s r .refusal ≡ SIZE → ⊥
+    checked-other other q =
+        ⊎-elim
+        (λ t. omega (arith, q, ap (λ (x : Reply). x .refusal) (checked-tree t)))
+        (λ t. ⊎-elim
+        (λ b. omega (arith, q, ap (λ (x : Reply). x .refusal) (checked-list t b)))
+        (λ b. other (sym (ap (λ (x : Reply). x .refusal) (checked-all t b)) ∙ q))
+        (less-or (listsBad (nodes I) (I .ends) (I .occurrences)) (words I)))
+        (less-or (treeBad (I .parents) (I .tags)) (nodes I))
+
+  pub refused-size : (r .refusal ≡ SIZE → ⊥) → eqb (depotChecked I s r .refusal) SIZE ≡ not (depotSizeOk I s)
+  refused-size other =
+      ⊎-elim (λ z. ne-eqb (depotChecked I s r .refusal) SIZE (checked-other z other) ∙ sym (ap not z))
+      (λ z. eq-eqb (depotChecked I s r .refusal) SIZE (ap (λ (x : Reply). x .refusal) (checked-size z)) ∙ sym (ap not z)) (bool-cases (depotSizeOk I s))
 
 -- ---- what the checks say of a search
 pub record Clean (I : Index) (s : ℕ) : Type 0 where
-  pub size : mergeSizeOk I s ≡ true
+  pub size : depotSizeOk I s ≡ true
   pub tree : nodes I ≤ treeBad (I .parents) (I .tags)
   pub lists : words I ≤ listsBad (nodes I) (I .ends) (I .occurrences)
 
-pub clean-reply : (I : Index) (s : ℕ) (r : Reply) → Clean I s → mergeChecked I s r ≡ r
+pub clean-reply : (I : Index) (s : ℕ) (r : Reply) → Clean I s → depotChecked I s r ≡ r
 clean-reply I s r c = checked-all I s r (c .size) (c .tree) (c .lists)
 
 pub record Stopped (I : Index) (s : ℕ) : Type 0 where
   pub number : ℕ
   pub place : ℕ
   pub refuses : number ≡ accepted → ⊥
-  pub reply : (r : Reply) → mergeChecked I s r ≡ refused number place
+  pub reply : (r : Reply) → depotChecked I s r ≡ refused number place
 
 pub clean-or-stopped : (I : Index) (s : ℕ) → Clean I s ⊎ Stopped I s
 clean-or-stopped I s =
@@ -134,12 +146,8 @@ clean-or-stopped I s =
     (less-or (listsBad (nodes I) (I .ends) (I .occurrences)) (words I)))
     (less-or (treeBad (I .parents) (I .tags)) (nodes I)))
     (λ z. inr (record { number = SIZE; place = 0; refuses = λ q. omega arith; reply = λ r. checked-size I s r z }))
-    (bool-cases (mergeSizeOk I s))
+    (bool-cases (depotSizeOk I s))
 
--- An index that passes the checks is one that the engine takes.
-pub clean-sound : (p t : List ℕ) (a q : ℕ) (ends occ : List ℕ) (s : ℕ) → Clean (depot p t a q ends occ) s → Sound (job p ends occ)
-clean-sound p t a q ends occ s c =
-    let z : MergeSized (depot p t a q ends occ) s = sized-of (depot p t a q ends occ) s (c .size) in
-    let n : length ends ≡ a = sized-words (depot p t a q ends occ) s z in
-    sound-of (job p ends occ) t (lawful-of p t (c .tree)) (z .someNodes) (z .fewNodes) (omega (arith, n, z .somePositive)) (omega (arith, n, z .fewPositive))
-    (words-kept (length p) ends occ (omega (arith, z .ended, c .lists)))
+-- ---- no second reply fits
+pub check-unique : (I : Index) (s : ℕ) (r r′ : Reply) → r ≡ depotChecked I s (totalled accepted 0) → r′ ≡ depotChecked I s (totalled accepted 0) → r ≡ r′
+check-unique I s r r′ = outcome-unique

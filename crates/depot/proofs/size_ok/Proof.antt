@@ -1,9 +1,9 @@
--- `merge::plans::size_ok` meets its contract: each test that fails is a part of the plain statement that does not hold. Assumes nothing.
+-- `depot::size_ok` meets its contract: each test that fails is a part of the plain statement that does not hold. Assumes nothing.
 use mathlib.Core.Path.{refl, sym, _∙_}
 use native.Mathlib.Omega.{arith}
-use Rattle.merge.proofs.Laws.Checks.{sized-words, sized-no, sized-last}
-use Rattle.merge.proofs.plans.size_ok.Statement.{statement}
-use Rattle.merge.proofs.plans.size_ok.Tie as tie
+use Rattle.depot.proofs.Laws.Checks.{sized-words, sized-no, sized-last}
+use Rattle.depot.proofs.size_ok.Statement.{statement}
+use Rattle.depot.proofs.size_ok.Tie as tie
 
 returns : tie.Need-returns
 returns c = sym (sized-no _ _ (λ s. omega (arith, c .if1 .taken, s .someNodes)))

@@ -1,8 +1,8 @@
--- `merge::plans::judge` meets its contract: glue over Planning. Assumes nothing.
+-- `depot::judge` meets its contract: glue over Checking. Assumes nothing.
 use native.Mathlib.Omega.{arith}
-use Rattle.merge.proofs.Planning.{judged-tree, judged-list, judged-clean}
-use Rattle.merge.proofs.plans.judge.Statement.{statement}
-use Rattle.merge.proofs.plans.judge.Tie as tie
+use Rattle.depot.proofs.Checking.{judged-tree, judged-list, judged-clean}
+use Rattle.depot.proofs.judge.Statement.{statement}
+use Rattle.depot.proofs.judge.Tie as tie
 
 tree-bad-requires : tie.Need-tree-bad-requires
 tree-bad-requires c κs = tt

@@ -1,0 +1,2 @@
+-- The laws of the check without counts, by theme.
+pub mod Checks

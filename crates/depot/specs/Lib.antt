@@ -1,0 +1,3 @@
+pub mod Depot
+pub mod Plain
+pub mod Inner
