@@ -1,13 +1,13 @@
 -- What the proofs of this crate's functions lean on: laws of the engine and of lists, what loops know at each turn, what functions give in the end, and the steps that the walks over the lent stack are made of.
 pub mod Laws
-mod Lists
 mod Rows
 mod Values
 mod Taking
 mod Walking
-mod Climbing
+mod Rising
 mod Judging
-mod Closing
+mod Advancing
+mod Machine
 pub mod Entering
 mod Lending
 mod Arrays

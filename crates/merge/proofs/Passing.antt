@@ -2,7 +2,7 @@
 --   begin-pre, run-pre   what the parts ask
 --   passed-of            what the whole promises
 -- Letters: J job; ys, o, w stack, out and own as lent, ys′, o′, w′ after the steps; s, r states, n the first step, c, c′ cursors. Assumes nothing.
-use Prim.Native.Nat.{ℕ, _≤_}
+use Prim.Native.Nat.{ℕ}
 use mathlib.Core.Path.{_≡_, refl, sym, ap, ap₂, subst, _∙_}
 use mathlib.Core.Logic.{⊎-elim}
 use mathlib.Core.List.{List}

@@ -13,9 +13,9 @@ use lib.ListN.{length, getD, take}
 use Rattle.seq.specs.Below.{everyBelow, tabulate}
 use Rattle.seq.proofs.Laws.Bools.{ltb-some, ltb-none}
 use Rattle.seq.proofs.Laws.Below.{every-zero, every-suc, every-fails}
+use Rattle.seq.proofs.Laws.Gather.{tabulate-take}
 use Rattle.seq.proofs.Laws.Loops.{Filling, filling-end}
 use Rattle.merge.specs.Inner.Entries.{sums, eachSome}
-use Rattle.merge.proofs.Lists.{tabulate-take}
 
 -- A row of 8 that has been filled.
 pub filled-row : (f : ℕ → ℕ) (d w : List ℕ) (j : ℕ) → Filling f d w j → length d ≡ 8 → 8 ≤ j → w ≡ tabulate 8 f

@@ -5,8 +5,7 @@ use mathlib.Core.Path.{_≡_}
 use mathlib.Core.List.{List}
 use mathlib.Core.Bool.{cond}
 use lib.ListN.{length, getD, set}
-use Rattle.index.specs.Index.{start}
-use Rattle.merge.specs.Inner.Cursors.{head, upTo, coming, lastLeft, stands, headAfter, upToAfter, Highest}
+use Rattle.merge.specs.Inner.Cursors.{head, upTo, lastLeft, stands}
 
 pub record LastPre (occ : List ℕ) (f e : ℕ) : Type 0 where
   pub within : e ≤ length occ

@@ -1,5 +1,5 @@
--- `merge::steps::advance` meets its contract: glue over Closing. Assumes nothing.
-use Rattle.merge.proofs.Closing.{advanced-closed, advanced-arrived}
+-- `merge::steps::advance` meets its contract: glue over Advancing. Assumes nothing.
+use Rattle.merge.proofs.Advancing.{advanced-closed, advanced-arrived}
 use Rattle.merge.proofs.steps.advance.Statement.{statement}
 use Rattle.merge.proofs.steps.advance.Tie as tie
 

@@ -1,6 +1,6 @@
--- `merge::steps::arrive` meets its contract: glue over Closing. Assumes nothing.
+-- `merge::steps::arrive` meets its contract: glue over Advancing. Assumes nothing.
 use native.Mathlib.Omega.{arith}
-use Rattle.merge.proofs.Closing.{came-fits, arrived-met, arrived-new}
+use Rattle.merge.proofs.Advancing.{came-fits, arrived-met, arrived-new}
 use Rattle.merge.proofs.steps.arrive.Statement.{statement}
 use Rattle.merge.proofs.steps.arrive.Tie as tie
 

@@ -1,6 +1,6 @@
--- `merge::steps::climb` meets its contract: glue over Climbing. Assumes nothing.
+-- `merge::steps::climb` meets its contract: glue over Rising. Assumes nothing.
 use native.Mathlib.Omega.{arith}
-use Rattle.merge.proofs.Climbing.{Climbing, climbing-start, climbing-low, climbing-before, climbing-less, climbing-step}
+use Rattle.merge.proofs.Rising.{Climbing, climbing-start, climbing-low, climbing-before, climbing-less, climbing-step}
 use borrow.Author.Needs.{needs}
 use Rattle.merge.proofs.steps.climb.Statement.{statement}
 use Rattle.merge.proofs.steps.climb.Tie as tie

@@ -1,5 +1,5 @@
--- `merge::steps::close` meets its contract: glue over Closing. Assumes nothing.
-use Rattle.merge.proofs.Closing.{judge-pre, climb-pre, into-pre, into-new, closed-root, closed-met, closed-new}
+-- `merge::steps::close` meets its contract: glue over Advancing. Assumes nothing.
+use Rattle.merge.proofs.Advancing.{judge-pre, climb-pre, into-pre, into-new, closed-root, closed-met, closed-new}
 use borrow.Author.Needs.{needs}
 use Rattle.merge.proofs.steps.close.Statement.{statement}
 use Rattle.merge.proofs.steps.close.Tie as tie
