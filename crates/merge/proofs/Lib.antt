@@ -1,19 +1,2 @@
--- What the proofs of this crate's functions lean on: laws of the engine and of lists, what loops know at each turn, what functions give in the end, and the steps that the walks over the lent stack are made of.
-pub mod Laws
-mod Rows
-mod Values
-mod Taking
-mod Walking
-mod Rising
-mod Judging
-mod Advancing
-mod Machine
-pub mod Entering
-mod Lending
-mod Arrays
-pub mod Blanks
-mod Running
-mod Planning
-mod Listing
-mod Passing
-mod Searching
+-- What the proofs of this crate's functions lean on.
+mod Searched

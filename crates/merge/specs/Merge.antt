@@ -1,33 +1,21 @@
 -- The whole outcome of the searches without counts, as functions of what is lent (02, Q-3; 01, "Replies" and "Memory").
---   blank                            == an entry of zeros, all fields
---   stackAfter I ys                  == the stack after the call: SIZE touches nothing; else its first 64 entries are zero, the rest as it was
 --   mergeElcaReply, mergeSlcaReply   == the reply: never COUNT
 --   mergeElcaOut, mergeSlcaOut       == out after the call
 --   mergeElcaOwn                     == own after the call
--- SIZE, TREE and LIST are the depot's check (depot/specs/Depot). Which nodes are listed, their own counts, and how both are written is as for the searches with counts (answers/specs/Searches).
+-- The stack after a call is the engine's (engine/specs/Search), and SIZE, TREE and LIST are the depot's check (depot/specs/Depot). Which nodes are listed, their own counts, and how both are written is as for the searches with counts (answers/specs/Searches).
 -- Letters: I index; ys, o, w what is lent as stack, out and own. Assumes nothing.
 use Prim.Native.Nat.{ℕ}
 use mathlib.Core.Path.{_≡_}
-use mathlib.Core.List.{List, _++_}
-use mathlib.Core.Bool.{cond, _&&_}
-use lib.ListN.{length, drop, replicate}
+use mathlib.Core.List.{List}
+use mathlib.Core.Bool.{_&&_}
+use lib.ListN.{length}
 use Rattle.index.specs.declared.Reply.{Reply}
 use Rattle.index.specs.Index.{Index}
 use Rattle.index.specs.Replies.{keptOr}
-use Rattle.depot.specs.Depot.{depotSizeOk, depotChecked}
+use Rattle.depot.specs.Depot.{depotChecked}
 use Rattle.answers.specs.Searches.{isElca, isSlca, outOf, ownOf, roomed, outFits, ownFits}
-use Rattle.merge.specs.declared.Entry.{Entry}
-
--- ---- the stack
-unfoldable pub blank : Entry
-blank = record { node = 0; own = replicate 8 0; covered = replicate 8 0 }
-
--- The first m entries zero, the rest as it was.
-unfoldable pub blanked : ℕ → List Entry → List Entry
-blanked m ys = replicate m blank ++ drop m ys
-
-unfoldable pub stackAfter : Index → List Entry → List Entry
-stackAfter I ys = cond (depotSizeOk I (length ys)) (blanked 64 ys) ys
+use Rattle.engine.specs.declared.Entry.{Entry}
+use Rattle.engine.specs.Search.{stackAfter}
 
 -- ---- ELCA
 unfoldable pub mergeElcaReply : Index → List Entry → List ℕ → List ℕ → Reply

@@ -24,7 +24,7 @@ use Rattle.index.proofs.Laws.Replies.{checked-size, checked-tree, checked-list,
 use Rattle.answers.specs.Searches.{isElca, isSlca, outOf, ownOf, answers, roomed, outFits, ownFits, elcaReply, elcaOut, elcaOwn, slcaReply, slcaOut}
 use Rattle.slca.specs.Contracts.{SlcaSearched}
 use Rattle.elca.specs.Contracts.{ElcaSearched}
-use Rattle.merge.specs.declared.Entry.{Entry}
+use Rattle.engine.specs.declared.Entry.{Entry}
 use Rattle.depot.specs.Depot.{depotSizeOk, depotChecked}
 use Rattle.merge.specs.Merge.{mergeElcaReply, mergeElcaOut, mergeElcaOwn, mergeSlcaReply, mergeSlcaOut, MergedElca, MergedSlca}
 use Rattle.depot.specs.Plain.{DepotSized}

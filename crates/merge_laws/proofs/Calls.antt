@@ -16,9 +16,10 @@ use Rattle.index.specs.Index.{Index}
 use Rattle.index.specs.Replies.{SIZE, COUNT, refused, room, workAfter, keptOr}
 use Rattle.index.proofs.Laws.Sizes.{sized-of}
 use Rattle.index.proofs.Laws.Replies.{kept-refused}
-use Rattle.merge.specs.declared.Entry.{Entry}
+use Rattle.engine.specs.declared.Entry.{Entry}
 use Rattle.depot.specs.Depot.{depotChecked}
-use Rattle.merge.specs.Merge.{stackAfter, mergeElcaReply, mergeElcaOut, mergeElcaOwn, mergeSlcaReply, mergeSlcaOut, MergedElca, MergedSlca}
+use Rattle.engine.specs.Search.{stackAfter}
+use Rattle.merge.specs.Merge.{mergeElcaReply, mergeElcaOut, mergeElcaOwn, mergeSlcaReply, mergeSlcaOut, MergedElca, MergedSlca}
 use Rattle.demands.specs.Calls.{Replied, SlcaDemands, ElcaDemands}
 use Rattle.demands.proofs.Calls.{slca-demands, elca-demands}
 use Rattle.demands.proofs.Unique.{slca-demands-unique, elca-demands-unique}

@@ -34,9 +34,10 @@ use Rattle.index.proofs.Acceptance.{right-clean}
 use Rattle.answers.specs.Searches.{isElca, isSlca, outOf, ownOf, answers, roomed, outFits, ownFits, elcaReply, elcaOut, elcaOwn, slcaReply, slcaOut}
 use Rattle.slca.specs.Contracts.{SlcaSearched}
 use Rattle.elca.specs.Contracts.{ElcaSearched}
-use Rattle.merge.specs.declared.Entry.{Entry}
+use Rattle.engine.specs.declared.Entry.{Entry}
 use Rattle.depot.specs.Depot.{depotLengthsOk, depotSizeOk, depotChecked}
-use Rattle.merge.specs.Merge.{stackAfter, mergeElcaReply, mergeElcaOut, mergeElcaOwn, mergeSlcaReply, mergeSlcaOut, MergedElca, MergedSlca}
+use Rattle.engine.specs.Search.{stackAfter}
+use Rattle.merge.specs.Merge.{mergeElcaReply, mergeElcaOut, mergeElcaOwn, mergeSlcaReply, mergeSlcaOut, MergedElca, MergedSlca}
 use Rattle.merge_laws.specs.Agree.{recounted, trueCounts, righted, uncounted, AgreesElca, AgreesSlca}
 use Rattle.depot.specs.Plain.{DepotSized}
 use Rattle.merge_laws.proofs.Agree.{no-size-sized, elca-sized, engines-agree-always, slca-sized, engines-agree-slca-always}

@@ -16,10 +16,10 @@ use Rattle.seq.proofs.Laws.Numbers.{less-or}
 use Rattle.index.specs.declared.Reply.{Reply}
 use Rattle.index.specs.Index.{Index}
 use Rattle.index.specs.Replies.{SIZE}
-use Rattle.merge.specs.declared.Entry.{Entry}
+use Rattle.engine.specs.declared.Entry.{Entry}
 use Rattle.depot.specs.Depot.{depotSizeOk}
-use Rattle.merge.specs.Merge.{blank, blanked, stackAfter}
-use Rattle.merge.proofs.Blanks.{blanked-long, blanked-at, blanked-rest}
+use Rattle.engine.specs.Search.{blank, blanked, stackAfter}
+use Rattle.engine.proofs.Blanks.{blanked-long, blanked-at, blanked-rest}
 use Rattle.depot.specs.Plain.{DepotSized}
 use Rattle.merge_laws.specs.Calls.{StackLeft}
 use Rattle.depot.proofs.Laws.Checks.{sized-of, sized-yes, sized-no}

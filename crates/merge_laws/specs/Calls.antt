@@ -13,8 +13,8 @@ use lib.ListN.{length, getD}
 use Rattle.index.specs.declared.Reply.{Reply}
 use Rattle.index.specs.Index.{Index}
 use Rattle.index.specs.Replies.{SIZE, COUNT, refused, room, workAfter}
-use Rattle.merge.specs.declared.Entry.{Entry}
-use Rattle.merge.specs.Merge.{blank}
+use Rattle.engine.specs.declared.Entry.{Entry}
+use Rattle.engine.specs.Search.{blank}
 use Rattle.depot.specs.Plain.{DepotSized}
 use Rattle.demands.specs.Calls.{SlcaDemands, ElcaDemands}
 use Rattle.merge_laws.specs.Agree.{righted}

@@ -8,8 +8,8 @@ ghost use Rattle.depot.specs.Depot.{depot};
 ghost use Rattle.merge.specs.Merge.{MergedElca, MergedSlca};
 ghost use Rattle.reader.specs.Read.{Reads};
 ghost use Rattle.reader.specs.Read as read;
+use engine::Entry;
 use index::Reply;
-use merge::Entry;
 
 // The index check alone.
 #[no_mangle]

@@ -42,17 +42,17 @@ use Rattle.index.specs.Index.{Index}
 use Rattle.index.specs.declared.Reply.{Reply}
 use Rattle.index.proofs.Reply as R
 use Rattle.index.proofs.Reply.Laws as R′
-use Rattle.merge.specs.declared.Entry.{Entry}
+use Rattle.engine.specs.declared.Entry.{Entry}
 use Rattle.depot.specs.Depot.{depot}
-use Rattle.merge.specs.Inner.Passes.{Searched}
-use Rattle.merge.proofs.Entering.{holds, enters-with, frees-all}
-use Rattle.merge.proofs.Searching.{searched-elca}
-use Rattle.merge.proofs.Machine.{readTy, lentTy, refTy, entryTy, entriesTy}
-use Rattle.merge.proofs.Entry as T
-use Rattle.merge.proofs.search as search′
-use Rattle.merge.proofs.search.Symbol as search-def
-use Rattle.merge.proofs.search.Symbol.{name as #search}
-use Rattle.merge.proofs.search.Met as search-thm
+use Rattle.engine.specs.Search.{Searched}
+use Rattle.engine.proofs.Entering.{holds, enters-with, frees-all}
+use Rattle.merge.proofs.Searched.{searched-elca}
+use Rattle.engine.proofs.Machine.{readTy, lentTy, refTy, entryTy, entriesTy}
+use Rattle.engine.proofs.Entry as T
+use Rattle.engine.proofs.search as search′
+use Rattle.engine.proofs.search.Symbol as search-def
+use Rattle.engine.proofs.search.Symbol.{name as #search}
+use Rattle.engine.proofs.search.Met as search-thm
 use Rattle.merge.proofs.elca.Key.{name as #elca}
 use Rattle.merge.proofs.elca as elca′
 use Rattle.merge.proofs.elca.Statement as stated
@@ -235,4 +235,4 @@ elca-spec 𝓤 H 𝓜 𝓖 𝓡 =
     entered 𝓤 H (tripleOf 𝓤 H (𝓖 .A) elca′.signature (elca′.spec 𝓤 H (𝓖 .A) (𝓜 .mem) (𝓡 .run)))
     (tables 𝓤 H 𝓜 𝓡 code.env .C) (tables 𝓤 H 𝓜 𝓡 code.env .Λ) #elca code.function (code.unfolded 𝓤 H 𝓜 𝓡)
     (elca-meets 𝓤 H (𝓖 .A) (givenOf 𝓤 H 𝓜 𝓖) (𝓜 .mem) (𝓡 .run) (tablesOf 𝓤 H 𝓜 (tables 𝓤 H 𝓜 𝓡 code.env))
-    (cited 𝓤 H (Search 𝓤 H (𝓖 .A) (𝓜 .mem) (𝓡 .run)) 𝓜 𝓡 code.env #search search-def.routine code.calls-merge·search (search-thm.met 𝓤 H 𝓜 𝓖 𝓡)))
+    (cited 𝓤 H (Search 𝓤 H (𝓖 .A) (𝓜 .mem) (𝓡 .run)) 𝓜 𝓡 code.env #search search-def.routine code.calls-engine·search (search-thm.met 𝓤 H 𝓜 𝓖 𝓡)))

@@ -45,19 +45,19 @@ use Rattle.index.specs.Index.{Index}
 use Rattle.index.specs.declared.Reply.{Reply}
 use Rattle.index.proofs.Reply as R
 use Rattle.index.proofs.Reply.Laws as R′
-use Rattle.merge.specs.declared.Entry.{Entry}
+use Rattle.engine.specs.declared.Entry.{Entry}
 use Rattle.depot.specs.Depot.{depot}
-use Rattle.merge.specs.Inner.Passes.{Searched}
-use Rattle.merge.proofs.Entering.{empty, holds, enters-with, frees-all}
-use Rattle.merge.proofs.Lending.{Hold}
-use Rattle.merge.proofs.Arrays.{Place, zeros, loan, Lender, array-lends, array-over}
-use Rattle.merge.proofs.Searching.{searched-slca}
-use Rattle.merge.proofs.Machine.{readTy, lentTy, refTy, entryTy, entriesTy}
-use Rattle.merge.proofs.Entry as T
-use Rattle.merge.proofs.search as search′
-use Rattle.merge.proofs.search.Symbol as search-def
-use Rattle.merge.proofs.search.Symbol.{name as #search}
-use Rattle.merge.proofs.search.Met as search-thm
+use Rattle.engine.specs.Search.{Searched}
+use Rattle.engine.proofs.Entering.{empty, holds, enters-with, frees-all}
+use Rattle.engine.proofs.Lending.{Hold}
+use Rattle.engine.proofs.Arrays.{Place, zeros, loan, Lender, array-lends, array-over}
+use Rattle.merge.proofs.Searched.{searched-slca}
+use Rattle.engine.proofs.Machine.{readTy, lentTy, refTy, entryTy, entriesTy}
+use Rattle.engine.proofs.Entry as T
+use Rattle.engine.proofs.search as search′
+use Rattle.engine.proofs.search.Symbol as search-def
+use Rattle.engine.proofs.search.Symbol.{name as #search}
+use Rattle.engine.proofs.search.Met as search-thm
 use Rattle.merge.proofs.slca.Key.{name as #slca}
 use Rattle.merge.proofs.slca as slca′
 use Rattle.merge.proofs.slca.Statement as stated
@@ -278,4 +278,4 @@ slca-spec 𝓤 H 𝓜 𝓖 𝓡 =
     entered 𝓤 H (tripleOf 𝓤 H (𝓖 .A) slca′.signature (slca′.spec 𝓤 H (𝓖 .A) (𝓜 .mem) (𝓡 .run)))
     (tables 𝓤 H 𝓜 𝓡 code.env .C) (tables 𝓤 H 𝓜 𝓡 code.env .Λ) #slca code.function (code.unfolded 𝓤 H 𝓜 𝓡)
     (slca-meets 𝓤 H (𝓖 .A) (givenOf 𝓤 H 𝓜 𝓖) (𝓜 .mem) (𝓡 .run) (tablesOf 𝓤 H 𝓜 (tables 𝓤 H 𝓜 𝓡 code.env))
-    (cited 𝓤 H (Search 𝓤 H (𝓖 .A) (𝓜 .mem) (𝓡 .run)) 𝓜 𝓡 code.env #search search-def.routine code.calls-merge·search (search-thm.met 𝓤 H 𝓜 𝓖 𝓡)))
+    (cited 𝓤 H (Search 𝓤 H (𝓖 .A) (𝓜 .mem) (𝓡 .run)) 𝓜 𝓡 code.env #search search-def.routine code.calls-engine·search (search-thm.met 𝓤 H 𝓜 𝓖 𝓡)))

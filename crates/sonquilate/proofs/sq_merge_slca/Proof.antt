@@ -38,9 +38,9 @@ use denote.Triple.Table.{entered, cited}
 use Rattle.index.specs.declared.Reply.{Reply}
 use Rattle.index.proofs.Reply as R
 use Rattle.index.proofs.Reply.Laws as R′
-use Rattle.merge.specs.declared.Entry.{Entry}
-use Rattle.merge.proofs.Entering.{allocates}
-use Rattle.merge.proofs.Entry as T
+use Rattle.engine.specs.declared.Entry.{Entry}
+use Rattle.engine.proofs.Entering.{allocates}
+use Rattle.engine.proofs.Entry as T
 use Rattle.merge.proofs.slca as slca′
 use Rattle.merge.proofs.slca.Symbol as slca-def
 use Rattle.merge.proofs.slca.Symbol.{name as #slca}
