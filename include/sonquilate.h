@@ -16,7 +16,8 @@
  *   occurrences  for each word, one after the other, the nodes at which it occurs, strictly increasing
  *   counts       k * n entries: counts[j * n + v] is the number of occurrences of word j under node v
  *   work         at least (k + 2) * n entries, with any content
- *   stack        at least 64 entries of sq_entry, with any content: one for each level that a tree may have
+ *   stack        at least 64 entries of sq_entry, with any content: one for each level that a tree may have. Quickest at the
+ *                begin of a page: an entry is stored whole, and one that straddles two pages takes longer
  * "Under v" means at v itself or at a descendant of v. sq_merge_elca and sq_merge_slca take the stack, and neither counts nor
  * work; the other calls on an index take counts and work, and no stack.
  *
