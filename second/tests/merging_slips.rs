@@ -5,6 +5,10 @@
 //! first, with a slip or without. Without one its search shares no step with
 //! the judge's, and it must agree with the judge on every case.
 
+#[macro_use]
+#[path = "common/slips.rs"]
+mod common;
+
 use second::call::{Reply, ACCEPTED, LIST, ROOM, SIZE, TREE};
 use second::gen::large_merges;
 use second::gen::merges::small;
@@ -16,18 +20,6 @@ use std::ops::Range;
 
 const CASES: u64 = 6_000;
 const ENOUGH: usize = 50;
-
-/// The slips, and a list of all of them.
-macro_rules! slips {
-    ($($slip:ident,)*) => {
-        #[derive(Clone, Copy, PartialEq, Eq, Debug)]
-        enum Slip {
-            $($slip,)*
-        }
-
-        const ALL: &[Slip] = &[$(Slip::$slip,)*];
-    };
-}
 
 slips! {
     // What is listed, and in which order.

@@ -3,6 +3,10 @@
 //! They are one reader by bytes, with a slip or without. Without one it is a
 //! third rendering, and must agree with the judge on every case.
 
+#[macro_use]
+#[path = "common/slips.rs"]
+mod common;
+
 use second::call::{Reply, ACCEPTED, MARKUP, ROOM, SIZE, TREE};
 use second::gen::reading::small;
 use second::gen::{large_texts, near};
@@ -12,18 +16,6 @@ use std::ops::Range;
 
 const CASES: u64 = 6_000;
 const ENOUGH: usize = 5;
-
-/// The slips, and a list of all of them.
-macro_rules! slips {
-    ($($slip:ident,)*) => {
-        #[derive(Clone, Copy, PartialEq, Eq, Debug)]
-        enum Slip {
-            $($slip,)*
-        }
-
-        const ALL: &[Slip] = &[$(Slip::$slip,)*];
-    };
-}
 
 slips! {
     // What is markup.

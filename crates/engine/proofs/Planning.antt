@@ -1,5 +1,5 @@
 -- What is planned before a pass: what the functions of `plans` give is what the definitions say. Assumes nothing.
---   planned-none, planned-all, first-planned   the first plan
+--   planned-none, planned-all   the first plan
 --   product-small, fits-no, fits-smallest, fits-last   whether there is room
 --   fits-pre, next-kept, next-room, next-fits   the plan of the second pass
 --   first-clean, first-stopped, next-clean, next-stopped   both plans, by whether something is refused
@@ -20,7 +20,7 @@ use Rattle.index.specs.Replies.{accepted, SIZE, ROOM, refused, totalled}
 use Rattle.engine.specs.declared.Entry.{Entry}
 use Rattle.engine.specs.declared.plans.Plan.{Plan}
 use Rattle.engine.specs.declared.steps.State.{State}
-use Rattle.depot.specs.Depot.{depotSizeOk, depotChecked}
+use Rattle.depot.specs.Depot.{depotSizeOk}
 use Rattle.engine.specs.Inner.Entries.{fresh}
 use Rattle.engine.specs.Inner.Cursors.{Set}
 use Rattle.engine.specs.Inner.Steps.{step, moved}
@@ -36,10 +36,6 @@ module _ (r : Reply) (b : Bool) (v : State) (h : v ≡ starting (eqb (r .refusal
   pub planned-all : (r .refusal ≡ SIZE → ⊥) → cells ≡ 64 → record { reply = r; state = v; cells = cells } ≡ planAt r b
   unfolding planAt
   planned-all e z = rw (ne-eqb (r .refusal) SIZE e, h, z)
-
-pub first-planned : (I : Index) (s : ℕ) (b : Bool) (r : Reply) (a : Plan) → r ≡ depotChecked I s (totalled accepted 0) → a ≡ planAt r b → a ≡ firstPlan I s b
-unfolding firstPlan
-first-planned I s b r a e h = h ∙ ap (λ (z : Reply). planAt z b) e
 
 -- ---- room
 pub product-small : (m k : ℕ) → FitsPre m k → m * k ≤ 524288
@@ -77,7 +73,7 @@ module _ (a : Plan) (m k o w : ℕ) where
 module _ (I : Index) (s : ℕ) (b : Bool) where
   -- A pass that counts, or none after a refusal.
   pub first-clean : Clean I s → firstPlan I s b ≡ record { reply = totalled accepted 0; state = starting true b false 0; cells = 64 }
-  unfolding firstPlan planAt
+  unfolding planAt
   first-clean c = ap (λ (r : Reply). planAt r b) (clean-reply I s (totalled accepted 0) c)
 
   -- As many entries are zeroed.
@@ -95,7 +91,7 @@ module _ (I : Index) (s : ℕ) (b : Bool) where
       swapped false = refl
 
   pub first-stopped : (z : Stopped I s) → firstPlan I s b ≡ record { reply = refused (z .number) (z .place); state = starting false b false 0; cells = zeroed }
-  unfolding firstPlan planAt
+  unfolding planAt
   first-stopped z =
       ap (λ (r : Reply). planAt r b) (z .reply (totalled accepted 0))
       ∙ ap₂ (λ (x : Bool) (m : ℕ). record { reply = refused (z .number) (z .place); state = starting x b false 0; cells = m }) (ne-eqb (z .number) accepted (z .refuses)) (cells-stopped z)

@@ -39,16 +39,8 @@ pub fn search(
     ensures { λ r. ⌜ Searched (depot (now (parents .entry)) (now (tags .entry)) p q (now (ends .entry)) (now (occurrences .entry))) smallest
         (now (stack .entry)) (now (out .entry)) (now (own .entry)) r (now (stack .exit)) (now (out .exit)) (now (own .exit)) ⌝ }
 {
-    let a = plans::first(
-        parents,
-        tags,
-        p,
-        q,
-        ends,
-        occurrences,
-        stack.len(),
-        smallest,
-    );
+    let checked = depot::check(parents, tags, p, q, ends, occurrences, stack.len());
+    let a = plans::first(checked, smallest);
     let n = passes::pass(stack, parents, ends, occurrences, out, own, a.state);
     let b = plans::second(a, n.left, ends.len(), out.len(), own.len());
     passes::pass(stack, parents, ends, occurrences, out, own, b.state);

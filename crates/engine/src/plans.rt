@@ -1,7 +1,6 @@
 // What is planned before a pass: the checks come before the first, ROOM before the second (02, Q-3; 01, "Replies").
 ghost use mathlib.Core.Path.{_≡_};
-ghost use Rattle.depot.specs.Depot.{depot};
-ghost use Rattle.engine.specs.Inner.Passes.{starting, planAt, firstPlan, FitsPre, fitting, NextPre, nextPlan};
+ghost use Rattle.engine.specs.Inner.Passes.{starting, planAt, FitsPre, fitting, NextPre, nextPlan};
 use crate::steps::State;
 use index::Reply;
 
@@ -27,8 +26,8 @@ fn start(on: bool, smallest: bool, fill: bool, m: usize) -> State
     }
 }
 
-// The plan of a pass that counts, after the reply of the checks: nothing is to be done where it is a refusal. The stack is zeroed under every reply but SIZE.
-fn after(r: Reply, smallest: bool) -> Plan
+// The plan of the first pass, after the reply of the checks: nothing is to be done where it is a refusal. The stack is zeroed under every reply but SIZE.
+pub(crate) fn first(r: Reply, smallest: bool) -> Plan
     ensures { λ a. ⌜ a ≡ planAt r smallest ⌝ }
 {
     let on = r.refusal == index::ACCEPTED;
@@ -41,23 +40,6 @@ fn after(r: Reply, smallest: bool) -> Plan
         state: start(on, smallest, false, 0),
         cells: cells,
     }
-}
-
-// The plan of the first pass.
-pub(crate) fn first(
-    parents: &[u32],
-    tags: &[u32],
-    p: u32,
-    q: u32,
-    ends: &[u32],
-    occurrences: &[u32],
-    long: usize,
-    smallest: bool,
-) -> Plan
-    ensures { λ r. ⌜ r ≡ firstPlan (depot (now (parents .entry)) (now (tags .entry)) p q (now (ends .entry)) (now (occurrences .entry))) long smallest ⌝ }
-{
-    let r = depot::check(parents, tags, p, q, ends, occurrences, long);
-    after(r, smallest)
 }
 
 // Whether there is room for m answers: in out, and unless the smallest are listed for k counts of each in own.

@@ -1,9 +1,9 @@
 -- What is promised of the two searches, from what the engine promises. Assumes nothing.
 -- Letters: I index; ys, o, w stack, out and own as lent, ys′, o′, w′ as they are then; r reply.
 use Prim.Native.Nat.{ℕ}
-use mathlib.Core.Path.{_≡_, refl, ap, _∙_}
+use mathlib.Core.Path.{_≡_, ap, _∙_}
 use mathlib.Core.List.{List}
-use mathlib.Core.Bool.{Bool, true, false, _&&_}
+use mathlib.Core.Bool.{Bool, true, false, and-true}
 use lib.ListN.{length}
 use Rattle.index.specs.declared.Reply.{Reply}
 use Rattle.index.specs.Index.{Index}
@@ -13,11 +13,6 @@ use Rattle.answers.specs.Searches.{isElca, isSlca, outOf, ownOf, roomed, outFit
 use Rattle.engine.specs.declared.Entry.{Entry}
 use Rattle.engine.specs.Search.{Searched}
 use Rattle.merge.specs.Merge.{mergeElcaReply, mergeElcaOut, mergeElcaOwn, mergeSlcaReply, mergeSlcaOut, MergedElca, MergedSlca}
-
--- `&& true` changes nothing.
-and-true : (x : Bool) → (x && true) ≡ x
-and-true true = refl
-and-true false = refl
 
 pub searched-elca : (I : Index) (ys : List Entry) (o w : List ℕ) (r : Reply) (ys′ : List Entry) (o′ w′ : List ℕ) → Searched I false ys o w r ys′ o′ w′ → MergedElca I ys o w r ys′ o′ w′
 unfolding mergeElcaReply mergeElcaOut mergeElcaOwn

@@ -41,15 +41,16 @@ use denote.Triple.Walked.{says, Stays, stay-slice, stay-dropped, walkOf, goes-sl
 use denote.Exit.{yes}
 use Rattle.index.specs.declared.Reply.{Reply}
 use Rattle.index.specs.Index.{Index}
+use Rattle.index.specs.Replies.{accepted, totalled}
 use Rattle.index.proofs.Reply as R
 use Rattle.index.proofs.Reply.Laws as R′
 use Rattle.engine.specs.declared.Entry.{Entry}
 use Rattle.engine.specs.declared.plans.Plan.{Plan}
 use Rattle.engine.specs.declared.steps.State.{State}
-use Rattle.depot.specs.Depot.{depot}
+use Rattle.depot.specs.Depot.{depot, depotChecked}
 use Rattle.engine.specs.Search.{blanked, Searched}
 use Rattle.engine.specs.Inner.Going.{Job}
-use Rattle.engine.specs.Inner.Passes.{job, PassPre, Passed, firstPlan, NextPre, nextPlan}
+use Rattle.engine.specs.Inner.Passes.{job, PassPre, Passed, planAt, firstPlan, NextPre, nextPlan}
 use Rattle.engine.proofs.Entering.{Held, empty, holds, envOf, cellsOf, diesOf, enters-with, empties-from, frees-all}
 use Rattle.engine.proofs.Lending.{Loan, Look, ref, vals, Owned, Hold, Lent, lends, comes-back, seen, Seen, Looks, looks-twice}
 use Rattle.engine.proofs.Searching.{first-pre, next-pre, second-pre, cells-fit, searched-of}
@@ -59,6 +60,10 @@ use Rattle.engine.proofs.steps.State as S
 use Rattle.engine.proofs.steps.State.Laws as S′
 use Rattle.engine.proofs.plans.Plan as P
 use Rattle.engine.proofs.plans.Plan.Laws as P′
+use Rattle.depot.proofs.check as check′
+use Rattle.depot.proofs.check.Symbol as check-def
+use Rattle.depot.proofs.check.Symbol.{name as #check}
+use Rattle.depot.proofs.check.Met as check-thm
 use Rattle.engine.proofs.plans.first as first′
 use Rattle.engine.proofs.plans.first.Symbol as first-def
 use Rattle.engine.proofs.plans.first.Symbol.{name as #first}
@@ -93,6 +98,9 @@ stayed = (stay-dropped (read 0 tt) yes, (stay-dropped (read 1 tt) yes, (stay-dro
 
 -- the contracts that the proof cites
 module _ {M : Type 1} (𝓤 : URA M) (H : Heap 𝓤) (A : Atoms 𝓤) (mem : Memory → SProp 𝓤) (run : Routine → Fun 𝓤) where
+  abbrev Check : Contract 𝓤
+  Check = tripleOf 𝓤 H A check′.signature (check′.spec 𝓤 H A mem run)
+
   abbrev First : Contract 𝓤
   First = tripleOf 𝓤 H A first′.signature (first′.spec 𝓤 H A mem run)
 
@@ -107,6 +115,7 @@ module _ {M : Type 1} (𝓤 : URA M) (H : Heap 𝓤) (A : Atoms 𝓤) (mem : Mem
 
   -- that each is met
   record Cited (C : Calls 𝓤 H) : Type 1 where
+    check : Triple 𝓤 (C #check) Check
     first : Triple 𝓤 (C #first) First
     pass : Triple 𝓤 (C #pass) Pass
     second : Triple 𝓤 (C #second) Second
@@ -119,7 +128,10 @@ machR h = LL.tuple-val R.the-type R′.the-laws (R.the-type .to h)
 abbrev machP : Plan → Val
 machP h = LL.tuple-val P.the-type P′.the-laws (P.the-type .to h)
 
--- a state and a plan that the machine holds
+-- a reply, a state and a plan that the machine holds
+abbrev IsR : Reply → Type 0
+IsR h = Is R.the-row h (machR h ∷ [])
+
 abbrev IsS : State → Type 0
 IsS h = Is S.the-row h (machS h ∷ [])
 
@@ -129,7 +141,7 @@ IsP h = Is P.the-row h (machP h ∷ [])
 -- ---- the locals
 -- The locals, with their types as the walk reads them: the code's own are spelled from a table, which is slow to look up at each step.
 abbrev locals : List Local
-locals = local (R′.mir) valueLocal ∷ local (readTy 0) valueLocal ∷ local (readTy 1) valueLocal ∷ local (tyInt w32) valueLocal ∷ local (tyInt w32) valueLocal ∷ local (readTy 2) valueLocal ∷ local (readTy 3) valueLocal ∷ local (entriesTy (named 4)) valueLocal ∷ local (lentTy (named 5)) valueLocal ∷ local (lentTy (named 6)) valueLocal ∷ local (tyBool) valueLocal ∷ local (P′.mir) valueLocal ∷ local (S′.mir) valueLocal ∷ local (P′.mir) valueLocal ∷ local (tyInt w64) valueLocal ∷ local (entryTy) valueLocal ∷ local (entriesTy erased) valueLocal ∷ local (refTy) valueLocal ∷ local (lentTy erased) valueLocal ∷ local (refTy) valueLocal ∷ local (lentTy erased) valueLocal ∷ local (tyInt w64) valueLocal ∷ local (tyInt w64) valueLocal ∷ local (S′.mir) valueLocal ∷ local (entryTy) valueLocal ∷ local (entriesTy erased) valueLocal ∷ local (refTy) valueLocal ∷ local (lentTy erased) valueLocal ∷ local (refTy) valueLocal ∷ local (lentTy erased) valueLocal ∷ local (tyUnit) valueLocal ∷ local (entryTy) valueLocal ∷ local (entriesTy erased) valueLocal ∷ []
+locals = local (R′.mir) valueLocal ∷ local (readTy 0) valueLocal ∷ local (readTy 1) valueLocal ∷ local (tyInt w32) valueLocal ∷ local (tyInt w32) valueLocal ∷ local (readTy 2) valueLocal ∷ local (readTy 3) valueLocal ∷ local (entriesTy (named 4)) valueLocal ∷ local (lentTy (named 5)) valueLocal ∷ local (lentTy (named 6)) valueLocal ∷ local (tyBool) valueLocal ∷ local (R′.mir) valueLocal ∷ local (P′.mir) valueLocal ∷ local (S′.mir) valueLocal ∷ local (P′.mir) valueLocal ∷ local (tyInt w64) valueLocal ∷ local (entryTy) valueLocal ∷ local (entriesTy erased) valueLocal ∷ local (refTy) valueLocal ∷ local (lentTy erased) valueLocal ∷ local (refTy) valueLocal ∷ local (lentTy erased) valueLocal ∷ local (tyInt w64) valueLocal ∷ local (tyInt w64) valueLocal ∷ local (S′.mir) valueLocal ∷ local (entryTy) valueLocal ∷ local (entriesTy erased) valueLocal ∷ local (refTy) valueLocal ∷ local (lentTy erased) valueLocal ∷ local (refTy) valueLocal ∷ local (lentTy erased) valueLocal ∷ local (tyUnit) valueLocal ∷ local (entryTy) valueLocal ∷ local (entriesTy erased) valueLocal ∷ []
 
 -- for which lifetimes and under which names the stack, out and own are lent to a pass
 record Names : Type 0 where
@@ -155,56 +167,75 @@ module _ {M : Type 1} (𝓤 : URA M) (H : Heap 𝓤) (A : Atoms 𝓤) (W : Given
   abbrev All : List Entry → List ℕ → List ℕ → Item 𝓤
   All ys o w = ‵ (Hold T.the-row Ls (named 4) ys) ⊛ Nums o w
 
-  -- ---- the call of `first`
+  -- ---- the call of `check`
   abbrev four : Lfts 4
   four = (Lp .κ, (Lt .κ, (Le .κ, (Lq .κ, tt))))
 
   abbrev Asking : Type 0
-  Asking = RefT (List ℕ) × (RefT (List ℕ) × (ℕ × (ℕ × (RefT (List ℕ) × (RefT (List ℕ) × (ℕ × (Bool × Unit {0})))))))
+  Asking = RefT (List ℕ) × (RefT (List ℕ) × (ℕ × (ℕ × (RefT (List ℕ) × (RefT (List ℕ) × (ℕ × Unit {0}))))))
 
   abbrev asking : ℕ → Asking
-  asking m = (Lp .d, (Lt .d, (p, (q, (Le .d, (Lq .d, (m, (smallest, tt))))))))
+  asking m = (Lp .d, (Lt .d, (p, (q, (Le .d, (Lq .d, (m, tt)))))))
 
-  abbrev to-first : ℕ → First 𝓤 H A mem run .Ghost
-  to-first m = ((four, (Lp .q, (Lt .q, (Le .q, (Lq .q, tt)))), tt, asking m, (seen Lp ∷ [], (seen Lt ∷ [], (vint w32 p ∷ [], (vint w32 q ∷ [], (seen Le ∷ [], (seen Lq ∷ [], (vint w64 m ∷ [], (vbool smallest ∷ [], tt))))))))), tt)
+  -- what it replies
+  abbrev checked : ℕ → Reply
+  checked m = depotChecked I m (totalled accepted 0)
 
-  goes-first : (m : ℕ) → m < 2 ^ 64
+  abbrev to-check : ℕ → Check 𝓤 H A mem run .Ghost
+  to-check m = ((four, (Lp .q, (Lt .q, (Le .q, (Lq .q, tt)))), tt, asking m, (seen Lp ∷ [], (seen Lt ∷ [], (vint w32 p ∷ [], (vint w32 q ∷ [], (seen Le ∷ [], (seen Lq ∷ [], (vint w64 m ∷ [], tt)))))))), tt)
+
+  goes-check : (m : ℕ) → m < 2 ^ 64
       → ent 𝓤 (⋆ 𝓤 H A (‵ (flft (Lp .κ) (Lp .q)) ∷ ‵ (flft (Lt .κ) (Lt .q)) ∷ ‵ (flft (Le .κ) (Le .q)) ∷ ‵ (flft (Lq .κ) (Lq .q)) ∷ ‵ (Seen Lp (named 0)) ∷ ‵ (Seen Lt (named 1)) ∷ ‵ (Seen Le (named 2)) ∷ ‵ (Seen Lq (named 3)) ∷ []))
-      (First 𝓤 H A mem run .pre (to-first m))
-  goes-first m m-fits =
+      (Check 𝓤 H A mem run .pre (to-check m))
+  goes-check m m-fits =
       qed W (‵ (flft (Lp .κ) (Lp .q)) ∷ ‵ (flft (Lt .κ) (Lt .q)) ∷ ‵ (flft (Le .κ) (Le .q)) ∷ ‵ (flft (Lq .κ) (Lq .q)) ∷ ‵ (Seen Lp (named 0)) ∷ ‵ (Seen Lt (named 1)) ∷ ‵ (Seen Le (named 2)) ∷ ‵ (Seen Lq (named 3)) ∷ []) ∵
       nothing ! $ move ! (1 ∷ 2 ∷ 3 ∷ 4 ∷ 0 ∷ []) $ group ! 5 $
       -- [the tokens; parents; tags; ends; occurrences]
-      nothing ! $ owned ! bool (Is bool) (bool-makes 𝓤 H A W) smallest _ refl $ fjoin ! $ owned ! usize (Is usize) (uint-makes 𝓤 H A W w64) m _ (refl, m-fits) $ fjoin ! $ move ! (5 ∷ 0 ∷ []) $ fjoin ! $ move ! (4 ∷ 0 ∷ []) $ fjoin ! $
+      nothing ! $ owned ! usize (Is usize) (uint-makes 𝓤 H A W w64) m _ (refl, m-fits) $ fjoin ! $ move ! (5 ∷ 0 ∷ []) $ fjoin ! $ move ! (4 ∷ 0 ∷ []) $ fjoin ! $
       owned ! u32 (Is u32) (uint-makes 𝓤 H A W w32) q _ (refl, q-fits) $ fjoin ! $ owned ! u32 (Is u32) (uint-makes 𝓤 H A W w32) p _ (refl, p-fits) $ fjoin ! $ move ! (3 ∷ 0 ∷ []) $ fjoin ! $ move ! (2 ∷ 0 ∷ []) $ fjoin ! $
       move ! (1 ∷ 0 ∷ []) $ join ! $ frame ! $ done !
 
   -- what is kept of what is lent
-  abbrev Kept-first : List Entry → List ℕ → List ℕ → Item 𝓤
-  Kept-first ys o w = ‵ (Hold T.the-row Ls (named 4) ys) ⊛ ‵ (Hold u32 Lo (named 5) o) ⊛ ‵ (Hold u32 Lw (named 6) w) ⊛ ‵ (Seen Lp (named 0)) ⊛ ‵ (Seen Lt (named 1)) ⊛ ‵ (Seen Le (named 2)) ⊛ ‵ (Seen Lq (named 3))
+  abbrev Kept-check : List Entry → List ℕ → List ℕ → Item 𝓤
+  Kept-check ys o w = ‵ (Hold T.the-row Ls (named 4) ys) ⊛ ‵ (Hold u32 Lo (named 5) o) ⊛ ‵ (Hold u32 Lw (named 6) w) ⊛ ‵ (Seen Lp (named 0)) ⊛ ‵ (Seen Lt (named 1)) ⊛ ‵ (Seen Le (named 2)) ⊛ ‵ (Seen Lq (named 3))
 
-  opens-first : (m : ℕ) (ys : List Entry) (o w : List ℕ) → m < 2 ^ 64 → ent 𝓤 (mean 𝓤 H A (All ys o w)) (sep 𝓤 (First 𝓤 H A mem run .pre (to-first m)) (mean 𝓤 H A (Kept-first ys o w)))
-  opens-first m ys o w m-fits =
+  opens-check : (m : ℕ) (ys : List Entry) (o w : List ℕ) → m < 2 ^ 64 → ent 𝓤 (mean 𝓤 H A (All ys o w)) (sep 𝓤 (Check 𝓤 H A mem run .pre (to-check m)) (mean 𝓤 H A (Kept-check ys o w)))
+  opens-check m ys o w m-fits =
       qed W (‵ (Hold T.the-row Ls (named 4) ys) ∷ ‵ (Hold u32 Lo (named 5) o) ∷ ‵ (Hold u32 Lw (named 6) w) ∷ ‵ (Looks Lp (named 0)) ∷ ‵ (Looks Lt (named 1)) ∷ ‵ (Looks Le (named 2)) ∷ ‵ (Looks Lq (named 3)) ∷ []) ∵
       move ! (3 ∷ []) $ use1 W (‵ (flft (Lp .κ) (Lp .q)) ⊛ ‵ (Seen Lp (named 0)) ⊛ ‵ (Seen Lp (named 0))) (looks-twice Lp 𝓤 H A W (named 0)) $ split3 ! $
       move ! (6 ∷ []) $ use1 W (‵ (flft (Lt .κ) (Lt .q)) ⊛ ‵ (Seen Lt (named 1)) ⊛ ‵ (Seen Lt (named 1))) (looks-twice Lt 𝓤 H A W (named 1)) $ split3 ! $
       move ! (9 ∷ []) $ use1 W (‵ (flft (Le .κ) (Le .q)) ⊛ ‵ (Seen Le (named 2)) ⊛ ‵ (Seen Le (named 2))) (looks-twice Le 𝓤 H A W (named 2)) $ split3 ! $
       move ! (12 ∷ []) $ use1 W (‵ (flft (Lq .κ) (Lq .q)) ⊛ ‵ (Seen Lq (named 3)) ⊛ ‵ (Seen Lq (named 3))) (looks-twice Lq 𝓤 H A W (named 3)) $ split3 ! $
       -- of occurrences, ends, tags and parents each the token and twice the slice; then the stack; out; own
-      move ! (9 ∷ 6 ∷ 3 ∷ 0 ∷ 10 ∷ 7 ∷ 4 ∷ 1 ∷ 12 ∷ 13 ∷ 14 ∷ 11 ∷ 8 ∷ 5 ∷ 2 ∷ []) $ group ! 8 $ use1 W (raw (First 𝓤 H A mem run .pre (to-first m))) (goes-first m m-fits) $ frame ! $ done !
+      move ! (9 ∷ 6 ∷ 3 ∷ 0 ∷ 10 ∷ 7 ∷ 4 ∷ 1 ∷ 12 ∷ 13 ∷ 14 ∷ 11 ∷ 8 ∷ 5 ∷ 2 ∷ []) $ group ! 8 $ use1 W (raw (Check 𝓤 H A mem run .pre (to-check m))) (goes-check m m-fits) $ frame ! $ done !
 
-  closes-first : (m : ℕ) (ys : List Entry) (o w : List ℕ) (v : Val)
-      → ent 𝓤 (sep 𝓤 (First 𝓤 H A mem run .post (to-first m) v) (mean 𝓤 H A (Kept-first ys o w))) (H .⇛ (guard 𝓤 (Is P.the-row (firstPlan I m smallest) (v ∷ [])) (mean 𝓤 H A (All ys o w))))
-  closes-first m ys o w v =
-      qed W (later (some (λ (r : Plan). ((‵ (flft (Lp .κ) (Lp .q)) ⊛ ‵ (flft (Lt .κ) (Lt .q)) ⊛ ‵ (flft (Le .κ) (Le .q)) ⊛ ‵ (flft (Lq .κ) (Lq .q)) ⊛ ‵ ftrue) ⊛ ‵ (P.the-row .own r (v ∷ [])))
-      ⊛ raw (ensured 𝓤 H A first′.ended (first′.clauses 𝓤 H A mem run) four (asking m) tt r))) ∷ ‵ (Hold T.the-row Ls (named 4) ys) ∷ ‵ (Hold u32 Lo (named 5) o) ∷ ‵ (Hold u32 Lw (named 6) w) ∷ ‵ (Seen Lp (named 0)) ∷ ‵ (Seen Lt (named 1)) ∷ ‵ (Seen Le (named 2)) ∷ ‵ (Seen Lq (named 3)) ∷ []) ∵ updating ! $ await ! tt $ pick ! (λ r. split ! $ move ! (1 ∷ []) $
-      use1 W (raw (fact 𝓤 (r ≡ firstPlan I m smallest))) (exE 𝓤 _ (λ ws. snd∗ 𝓤 (sem 𝓤 H A (lasts first′.ended four (asking m) ws)) (fact 𝓤 (r ≡ firstPlan I m smallest)))) $ heard ! (r ≡ firstPlan I m smallest) (λ same. split ! $ move ! (1 ∷ []) $
-      peeks ! P.the-row (Is P.the-row) (shows 𝓤 H A P.the-row) r (v ∷ []) (λ is. drop ! $ split3 ! $ move ! (2 ∷ []) $ split3 ! $
+  closes-check : (m : ℕ) (ys : List Entry) (o w : List ℕ) (v : Val)
+      → ent 𝓤 (sep 𝓤 (Check 𝓤 H A mem run .post (to-check m) v) (mean 𝓤 H A (Kept-check ys o w))) (H .⇛ (guard 𝓤 (Is R.the-row (checked m) (v ∷ [])) (mean 𝓤 H A (All ys o w))))
+  closes-check m ys o w v =
+      qed W (later (some (λ (r : Reply). ((‵ (flft (Lp .κ) (Lp .q)) ⊛ ‵ (flft (Lt .κ) (Lt .q)) ⊛ ‵ (flft (Le .κ) (Le .q)) ⊛ ‵ (flft (Lq .κ) (Lq .q)) ⊛ ‵ ftrue) ⊛ ‵ (R.the-row .own r (v ∷ [])))
+      ⊛ raw (ensured 𝓤 H A check′.ended (check′.clauses 𝓤 H A mem run) four (asking m) tt r))) ∷ ‵ (Hold T.the-row Ls (named 4) ys) ∷ ‵ (Hold u32 Lo (named 5) o) ∷ ‵ (Hold u32 Lw (named 6) w) ∷ ‵ (Seen Lp (named 0)) ∷ ‵ (Seen Lt (named 1)) ∷ ‵ (Seen Le (named 2)) ∷ ‵ (Seen Lq (named 3)) ∷ []) ∵ updating ! $ await ! tt $ pick ! (λ r. split ! $ move ! (1 ∷ []) $
+      use1 W (raw (fact 𝓤 (r ≡ checked m))) (exE 𝓤 _ (λ ws. snd∗ 𝓤 (sem 𝓤 H A (lasts check′.ended four (asking m) ws)) (fact 𝓤 (r ≡ checked m)))) $ heard ! (r ≡ checked m) (λ same. split ! $ move ! (1 ∷ []) $
+      peeks ! R.the-row (Is R.the-row) (shows 𝓤 H A R.the-row) r (v ∷ []) (λ is. drop ! $ split3 ! $ move ! (2 ∷ []) $ split3 ! $
       -- [the tokens of ends and occurrences; true; the tokens of parents and tags; the stack; out; own; parents; tags; ends; occurrences]
       move ! (8 ∷ 3 ∷ []) $ fjoin ! $ move ! (8 ∷ 4 ∷ []) $ fjoin ! $ move ! (8 ∷ 2 ∷ []) $ fjoin ! $ move ! (8 ∷ 3 ∷ []) $ fjoin ! $
-      at-once ! $ check ! (subst (λ (z : Plan). Is P.the-row z (v ∷ [])) same is) $
+      at-once ! $ check ! (subst (λ (z : Reply). Is R.the-row z (v ∷ [])) same is) $
       -- [occurrences; ends; tags; parents; true; the stack; out; own]
       keep ! (5 ∷ 6 ∷ 7 ∷ 3 ∷ 2 ∷ 1 ∷ 0 ∷ []) $ done !)))
+
+  -- ---- the call of `first`
+  abbrev to-first : Reply → First 𝓤 H A mem run .Ghost
+  to-first r = ((tt, tt, tt, (r, (smallest, tt)), (machR r ∷ [], (vbool smallest ∷ [], tt))), tt)
+
+  goes-first : (r : Reply) → IsR r → ent 𝓤 (sem 𝓤 H A ftrue) (First 𝓤 H A mem run .pre (to-first r))
+  goes-first r hr =
+      qed W (‵ ftrue ∷ []) ∵ nothing ! $ owned ! bool (Is bool) (bool-makes 𝓤 H A W) smallest _ refl $ fjoin ! $
+      owned ! R.the-row (Is R.the-row) (LL.makes R.the-type R′.the-plain 𝓤 H A) r _ hr $ fjoin ! $ move ! (1 ∷ 0 ∷ []) $ join ! $ frame ! $ done !
+
+  gave-first : (r : Reply) (v : Val) → ent 𝓤 (First 𝓤 H A mem run .post (to-first r) v) (H .⇛ (guard 𝓤 (Is P.the-row (planAt r smallest) (v ∷ [])) (sem 𝓤 H A ftrue)))
+  gave-first r v =
+      qed W (later (some (λ (a : Plan). (‵ ftrue ⊛ ‵ (P.the-row .own a (v ∷ []))) ⊛ raw (ensured 𝓤 H A first′.ended (first′.clauses 𝓤 H A mem run) tt (r, (smallest, tt)) tt a))) ∷ []) ∵ updating ! $ await ! tt $ pick ! (λ a. split ! $ move ! (1 ∷ []) $
+      use1 W (raw (fact 𝓤 (a ≡ planAt r smallest))) (exE 𝓤 _ (λ ws. snd∗ 𝓤 (sem 𝓤 H A (lasts first′.ended tt (r, (smallest, tt)) ws)) (fact 𝓤 (a ≡ planAt r smallest)))) $ heard ! (a ≡ planAt r smallest) (λ same. split ! $ move ! (1 ∷ []) $
+      peeks ! P.the-row (Is P.the-row) (shows 𝓤 H A P.the-row) a (v ∷ []) (λ is. drop ! $ at-once ! $ check ! (subst (λ (z : Plan). Is P.the-row z (v ∷ [])) same is) $ done !)))
 
   -- ---- the call of `pass`
   abbrev six : Names → Lfts 6
@@ -412,56 +443,64 @@ module _ {M : Type 1} (𝓤 : URA M) (H : Heap 𝓤) (A : Atoms 𝓤) (W : Given
       abbrev En : Env 𝓤 H
       En = envOf 𝓤 H A W locals l
 
-      -- what the locals hold: the result, the arguments, the two plans with the state between them, and then os
-      abbrev held : Held → Held → Held → Held → List Held → List Held
-      held r i j k os = r ∷ holds (seen Lp) ∷ holds (seen Lt) ∷ holds (vint w32 p) ∷ holds (vint w32 q) ∷ holds (seen Le) ∷ holds (seen Lq) ∷ holds (sliceVal (Ls .b, Ls .o) (length ys₀)) ∷ holds (sliceVal (Lo .b, Lo .o) (length o₀)) ∷ holds (sliceVal (Lw .b, Lw .o) (length w₀)) ∷ holds (vbool smallest) ∷ i ∷ j ∷ k ∷ os
+      -- the reply of the check
+      abbrev checked₁ : Reply
+      checked₁ = checked (length ys₀)
 
-      -- between two calls: _11, _12 and _13 hold what is said, and the locals after them are rooms. Local i stands at 33 − i, and one further in a call
+      -- what the locals hold: the result, the arguments, the reply of the check, the two plans with the state between them, and then os
+      abbrev held : Held → Held → Held → Held → Held → List Held → List Held
+      held r c i j k os = r ∷ holds (seen Lp) ∷ holds (seen Lt) ∷ holds (vint w32 p) ∷ holds (vint w32 q) ∷ holds (seen Le) ∷ holds (seen Lq) ∷ holds (sliceVal (Ls .b, Ls .o) (length ys₀)) ∷ holds (sliceVal (Lo .b, Lo .o) (length o₀)) ∷ holds (sliceVal (Lw .b, Lw .o) (length w₀)) ∷ holds (vbool smallest) ∷ c ∷ i ∷ j ∷ k ∷ os
+
+      -- between two calls: _12, _13 and _14 hold what is said, and the locals after them are rooms. Local i stands at 34 − i, and one further in a call
       abbrev At : Held → Held → Held → List Entry → List ℕ → List ℕ → List (Item 𝓤)
-      At i j k ys o w = All ys o w ∷ cellsOf 𝓤 H A W locals (held empty i j k []) l (raw (diesOf 𝓤 H A W locals l) ∷ [])
+      At i j k ys o w = All ys o w ∷ cellsOf 𝓤 H A W locals (held empty (holds (machR checked₁)) i j k []) l (raw (diesOf 𝓤 H A W locals l) ∷ [])
+
+      -- before the first pass
+      abbrev Start : Held → Held → List (Item 𝓤)
+      Start c i = All ys₀ o₀ w₀ ∷ cellsOf 𝓤 H A W locals (held empty c i empty empty []) l (raw (diesOf 𝓤 H A W locals l) ∷ [])
 
       -- the stack is zeroed, and the body ends
       clears : (a c : Plan) (r : State) → IsP c → (ys : List Entry) (o w : List ℕ) → Long ys o w → c .cells ≤ length ys → ((zs : List Entry) → zs ≡ blanked (c .cells) ys → Searched I smallest ys₀ o₀ w₀ (c .reply) zs o w)
-          → ent 𝓤 (⋆ 𝓤 H A (At (holds (machP a)) (holds (machS r)) (holds (machP c)) ys o w)) (Wp 𝓤 H C Λ En code.Mir.t-21 (atReturn 𝓤 H En Post))
+          → ent 𝓤 (⋆ 𝓤 H A (At (holds (machP a)) (holds (machS r)) (holds (machP c)) ys o w)) (Wp 𝓤 H C Λ En code.Mir.t-22 (atReturn 𝓤 H En Post))
       clears a c r hc ys o w long fit found =
           let room : Room T.the-row (length ys) = subst (Room T.the-row) (sym (long .stack)) (rooms .stack) in
           let are = LL.owed P.the-type P′.the-laws c (machP c ∷ []) hc in
-          qed W (At (holds (machP a)) (holds (machS r)) (holds (machP c)) ys o w) ∵ exec ! C Λ En code.Mir.t-21 (atRet En Post) $
-          assigns ! (addr ! (from ! (fld ! refl (hop ! (look-in ! 26 (sub ! 0 refl (whole !))) (stop !))))) (from ! (stop !)) (init ! 2 refl (tt, tt)) $
-          assigns ! (agg ! (and-then ! (load ! (from ! (stop !)) (look ! 2 refl)) (and-then ! (load ! (from ! (fld ! refl (stop !))) (look-in ! 26 (sub ! 1 refl (whole !)))) (no-more !)))) (from ! (stop !)) (init ! 1 refl (tt, (tt, (record { fits = rooms .stack .0 }, tt)))) $
-          rewrite ! 1 (λ (m : ℕ). ‵ (fat fullShare (entriesTy erased) (l 32) 0 (sliceVal (Ls .b, Ls .o) m))) (sym (long .stack)) refl $
+          qed W (At (holds (machP a)) (holds (machS r)) (holds (machP c)) ys o w) ∵ exec ! C Λ En code.Mir.t-22 (atRet En Post) $
+          assigns ! (addr ! (from ! (fld ! refl (hop ! (look-in ! 27 (sub ! 0 refl (whole !))) (stop !))))) (from ! (stop !)) (init ! 2 refl (tt, tt)) $
+          assigns ! (agg ! (and-then ! (load ! (from ! (stop !)) (look ! 2 refl)) (and-then ! (load ! (from ! (fld ! refl (stop !))) (look-in ! 27 (sub ! 1 refl (whole !)))) (no-more !)))) (from ! (stop !)) (init ! 1 refl (tt, (tt, (record { fits = rooms .stack .0 }, tt)))) $
+          rewrite ! 1 (λ (m : ℕ). ‵ (fat fullShare (entriesTy erased) (l 33) 0 (sliceVal (Ls .b, Ls .o) m))) (sym (long .stack)) refl $
           use1 W (later (some (λ (ν : ℕ). some (λ (δ : GName). raw (Clear 𝓤 H A mem run .pre (to-clear ν δ ys (c .cells))) ⊛ Kept-clear ν δ ys o w)))) (opens-clear ys o w (c .cells) fit (are .1 .1 .0 .1)) $ await ! tt $ pick ! (λ ν. pick ! (λ δ. split ! $
           calls-at ! fm (Clear 𝓤 H A mem run) (known .clear) (to-clear ν δ ys (c .cells)) (and-then ! (load ! (from ! (stop !)) (look ! 2 refl)) (and-then ! (load ! (from ! (fld ! refl (stop !))) (look-in ! 21 (sub ! 2 refl (whole !)))) (no-more !))) (λ v.
           use2 W (later (some (λ (zs : List Entry). given (Cleared ys (c .cells) v zs) (All zs o w)))) (closes-clear ν δ ys o w (c .cells) v room) $ await ! tt $ pick ! (λ zs. learn ! (λ gave.
           land ! (from ! (stop !)) (init ! 3 refl (nothing-lawful 𝓤 H A W .typed tt (v ∷ []) (gave .is) .0)) $
-          assigns ! (of-opd ! (load ! (from ! (fld ! refl (stop !))) (look-in ! 20 (sub ! 0 refl (whole !))))) (from ! (stop !)) (init ! 33 refl (LL.lawful R.the-type R′.the-laws 𝓤 H A W .typed (c .reply) _ (are .0) .0)) $
-          returns ! (look ! 33 refl) $
-          frees-all 𝓤 H A W locals (held (holds (machR (c .reply))) (holds (machP a)) (holds (machS r)) (holds (machP c)) (empty ∷ empty ∷ empty ∷ empty ∷ empty ∷ empty ∷ empty ∷ empty ∷ empty ∷ empty ∷ empty ∷ empty ∷ empty ∷ empty ∷ empty ∷ empty ∷ holds _ ∷ holds _ ∷ holds _ ∷ [])) l (All zs o w ∷ []) _ $
+          assigns ! (of-opd ! (load ! (from ! (fld ! refl (stop !))) (look-in ! 20 (sub ! 0 refl (whole !))))) (from ! (stop !)) (init ! 34 refl (LL.lawful R.the-type R′.the-laws 𝓤 H A W .typed (c .reply) _ (are .0) .0)) $
+          returns ! (look ! 34 refl) $
+          frees-all 𝓤 H A W locals (held (holds (machR (c .reply))) (holds (machR checked₁)) (holds (machP a)) (holds (machS r)) (holds (machP c)) (empty ∷ empty ∷ empty ∷ empty ∷ empty ∷ empty ∷ empty ∷ empty ∷ empty ∷ empty ∷ empty ∷ empty ∷ empty ∷ empty ∷ empty ∷ empty ∷ holds _ ∷ holds _ ∷ holds _ ∷ [])) l (All zs o w ∷ []) _ $
           by ! (exits zs o w (c .reply) (record { stack = gave .long ∙ long .stack; out = long .out; own = long .own }) (found zs (gave .said)) (are .0)))))))
 
       -- the second pass, and what follows it
       again : (a c : Plan) (r : State) → IsP c → (ys : List Entry) (o w : List ℕ) → Long ys o w → PassPre J ys o w (c .state)
           → ((r₂ : State) (ys₂ : List Entry) (o₂ w₂ : List ℕ) → Passed J ys o w (c .state) r₂ ys₂ o₂ w₂ → c .cells ≤ length ys₂)
           → ((r₂ : State) (ys₂ : List Entry) (o₂ w₂ : List ℕ) → Passed J ys o w (c .state) r₂ ys₂ o₂ w₂ → (zs : List Entry) → zs ≡ blanked (c .cells) ys₂ → Searched I smallest ys₀ o₀ w₀ (c .reply) zs o₂ w₂)
-          → ent 𝓤 (⋆ 𝓤 H A (At (holds (machP a)) (holds (machS r)) (holds (machP c)) ys o w)) (Wp 𝓤 H C Λ En code.Mir.t-14 (atReturn 𝓤 H En Post))
+          → ent 𝓤 (⋆ 𝓤 H A (At (holds (machP a)) (holds (machS r)) (holds (machP c)) ys o w)) (Wp 𝓤 H C Λ En code.Mir.t-15 (atReturn 𝓤 H En Post))
       again a c r hc ys o w long ok fit found =
           let roomsU : Rooms ys o w = record { stack = subst (Room T.the-row) (sym (long .stack)) (rooms .stack); out = subst (Room u32) (sym (long .out)) (rooms .out); own = subst (Room u32) (sym (long .own)) (rooms .own) } in
           let are = LL.owed P.the-type P′.the-laws c (machP c ∷ []) hc in
-          qed W (At (holds (machP a)) (holds (machS r)) (holds (machP c)) ys o w) ∵ exec ! C Λ En code.Mir.t-14 (atRet En Post) $
-          assigns ! (addr ! (from ! (fld ! refl (hop ! (look-in ! 26 (sub ! 0 refl (whole !))) (stop !))))) (from ! (stop !)) (init ! 9 refl (tt, tt)) $
-          assigns ! (agg ! (and-then ! (load ! (from ! (stop !)) (look ! 9 refl)) (and-then ! (load ! (from ! (fld ! refl (stop !))) (look-in ! 26 (sub ! 1 refl (whole !)))) (no-more !)))) (from ! (stop !)) (init ! 8 refl (tt, (tt, (record { fits = rooms .stack .0 }, tt)))) $
-          assigns ! (addr ! (from ! (fld ! refl (hop ! (look-in ! 25 (sub ! 0 refl (whole !))) (stop !))))) (from ! (stop !)) (init ! 7 refl (tt, tt)) $
-          assigns ! (agg ! (and-then ! (load ! (from ! (stop !)) (look ! 7 refl)) (and-then ! (load ! (from ! (fld ! refl (stop !))) (look-in ! 25 (sub ! 1 refl (whole !)))) (no-more !)))) (from ! (stop !)) (init ! 6 refl (tt, (tt, (record { fits = rooms .out .0 }, tt)))) $
-          assigns ! (addr ! (from ! (fld ! refl (hop ! (look-in ! 24 (sub ! 0 refl (whole !))) (stop !))))) (from ! (stop !)) (init ! 5 refl (tt, tt)) $
-          assigns ! (agg ! (and-then ! (load ! (from ! (stop !)) (look ! 5 refl)) (and-then ! (load ! (from ! (fld ! refl (stop !))) (look-in ! 24 (sub ! 1 refl (whole !)))) (no-more !)))) (from ! (stop !)) (init ! 4 refl (tt, (tt, (record { fits = rooms .own .0 }, tt)))) $
-          rewrite ! 8 (λ (m : ℕ). ‵ (fat fullShare (entriesTy erased) (l 25) 0 (sliceVal (Ls .b, Ls .o) m))) (sym (long .stack)) refl $
-          rewrite ! 6 (λ (m : ℕ). ‵ (fat fullShare (lentTy erased) (l 27) 0 (sliceVal (Lo .b, Lo .o) m))) (sym (long .out)) refl $
-          rewrite ! 4 (λ (m : ℕ). ‵ (fat fullShare (lentTy erased) (l 29) 0 (sliceVal (Lw .b, Lw .o) m))) (sym (long .own)) refl $
+          qed W (At (holds (machP a)) (holds (machS r)) (holds (machP c)) ys o w) ∵ exec ! C Λ En code.Mir.t-15 (atRet En Post) $
+          assigns ! (addr ! (from ! (fld ! refl (hop ! (look-in ! 27 (sub ! 0 refl (whole !))) (stop !))))) (from ! (stop !)) (init ! 9 refl (tt, tt)) $
+          assigns ! (agg ! (and-then ! (load ! (from ! (stop !)) (look ! 9 refl)) (and-then ! (load ! (from ! (fld ! refl (stop !))) (look-in ! 27 (sub ! 1 refl (whole !)))) (no-more !)))) (from ! (stop !)) (init ! 8 refl (tt, (tt, (record { fits = rooms .stack .0 }, tt)))) $
+          assigns ! (addr ! (from ! (fld ! refl (hop ! (look-in ! 26 (sub ! 0 refl (whole !))) (stop !))))) (from ! (stop !)) (init ! 7 refl (tt, tt)) $
+          assigns ! (agg ! (and-then ! (load ! (from ! (stop !)) (look ! 7 refl)) (and-then ! (load ! (from ! (fld ! refl (stop !))) (look-in ! 26 (sub ! 1 refl (whole !)))) (no-more !)))) (from ! (stop !)) (init ! 6 refl (tt, (tt, (record { fits = rooms .out .0 }, tt)))) $
+          assigns ! (addr ! (from ! (fld ! refl (hop ! (look-in ! 25 (sub ! 0 refl (whole !))) (stop !))))) (from ! (stop !)) (init ! 5 refl (tt, tt)) $
+          assigns ! (agg ! (and-then ! (load ! (from ! (stop !)) (look ! 5 refl)) (and-then ! (load ! (from ! (fld ! refl (stop !))) (look-in ! 25 (sub ! 1 refl (whole !)))) (no-more !)))) (from ! (stop !)) (init ! 4 refl (tt, (tt, (record { fits = rooms .own .0 }, tt)))) $
+          rewrite ! 8 (λ (m : ℕ). ‵ (fat fullShare (entriesTy erased) (l 26) 0 (sliceVal (Ls .b, Ls .o) m))) (sym (long .stack)) refl $
+          rewrite ! 6 (λ (m : ℕ). ‵ (fat fullShare (lentTy erased) (l 28) 0 (sliceVal (Lo .b, Lo .o) m))) (sym (long .out)) refl $
+          rewrite ! 4 (λ (m : ℕ). ‵ (fat fullShare (lentTy erased) (l 30) 0 (sliceVal (Lw .b, Lw .o) m))) (sym (long .own)) refl $
           use1 W (later (some (λ (n : Names). raw (Pass 𝓤 H A mem run .pre (to-pass n ys o w (c .state))) ⊛ Kept-pass n ys o w))) (opens-pass ys o w (c .state) ok (are .1 .0)) $ await ! tt $ pick ! (λ n. split ! $
-          calls-at ! fm (Pass 𝓤 H A mem run) (known .pass) (to-pass n ys o w (c .state)) (and-then ! (load ! (from ! (stop !)) (look ! 9 refl)) (and-then ! (load ! (from ! (stop !)) (look ! 33 refl)) (and-then ! (load ! (from ! (stop !)) (look ! 29 refl)) (and-then ! (load ! (from ! (stop !)) (look ! 28 refl)) (and-then ! (load ! (from ! (stop !)) (look ! 7 refl)) (and-then ! (load ! (from ! (stop !)) (look ! 5 refl)) (and-then ! (load ! (from ! (fld ! refl (stop !))) (look-in ! 21 (sub ! 1 refl (whole !)))) (no-more !)))))))) (λ v.
+          calls-at ! fm (Pass 𝓤 H A mem run) (known .pass) (to-pass n ys o w (c .state)) (and-then ! (load ! (from ! (stop !)) (look ! 9 refl)) (and-then ! (load ! (from ! (stop !)) (look ! 34 refl)) (and-then ! (load ! (from ! (stop !)) (look ! 30 refl)) (and-then ! (load ! (from ! (stop !)) (look ! 29 refl)) (and-then ! (load ! (from ! (stop !)) (look ! 7 refl)) (and-then ! (load ! (from ! (stop !)) (look ! 5 refl)) (and-then ! (load ! (from ! (fld ! refl (stop !))) (look-in ! 21 (sub ! 1 refl (whole !)))) (no-more !)))))))) (λ v.
           use2 W (later (some (λ (z : After). given (Gave ys o w (c .state) v z) (All (z .stack) (z .out) (z .own))))) (closes-pass n ys o w (c .state) v roomsU) $ await ! tt $ pick ! (λ z. learn ! (λ gave.
           land ! (from ! (stop !)) (init ! 10 refl (LL.lawful S.the-type S′.the-laws 𝓤 H A W .typed (z .state) _ (gave .is) .0)) $
-          empties-from 𝓤 H A W 14 locals (held empty (holds _) (holds _) (holds _) (empty ∷ empty ∷ empty ∷ empty ∷ empty ∷ empty ∷ empty ∷ empty ∷ empty ∷ holds _ ∷ holds _ ∷ holds _ ∷ holds _ ∷ holds _ ∷ holds _ ∷ holds _ ∷ [])) l (All (z .stack) (z .out) (z .own) ∷ []) (raw (diesOf 𝓤 H A W locals l) ∷ []) _ $
+          empties-from 𝓤 H A W 15 locals (held empty (holds _) (holds _) (holds _) (holds _) (empty ∷ empty ∷ empty ∷ empty ∷ empty ∷ empty ∷ empty ∷ empty ∷ empty ∷ holds _ ∷ holds _ ∷ holds _ ∷ holds _ ∷ holds _ ∷ holds _ ∷ holds _ ∷ [])) l (All (z .stack) (z .out) (z .own) ∷ []) (raw (diesOf 𝓤 H A W locals l) ∷ []) _ $
           by ! (clears a c r hc (z .stack) (z .out) (z .own) (record { stack = gave .stackLong ∙ long .stack; out = gave .outLong ∙ long .out; own = gave .ownLong ∙ long .own })
           (fit (z .state) (z .stack) (z .out) (z .own) (gave .said)) (found (z .state) (z .stack) (z .out) (z .own) (gave .said)))))))
 
@@ -474,53 +513,64 @@ module _ {M : Type 1} (𝓤 : URA M) (H : Heap 𝓤) (A : Atoms 𝓤) (W : Given
 
       -- the second plan, once answers have been counted, and what follows it
       replans : (r : State) → IsP plan₁ → IsS r → (ys : List Entry) (o w : List ℕ) → Long ys o w → Passed J ys₀ o₀ w₀ (plan₁ .state) r ys o w
-          → ent 𝓤 (⋆ 𝓤 H A (At (holds (machP plan₁)) (holds (machS r)) empty ys o w)) (Wp 𝓤 H C Λ En code.Mir.t-10 (atReturn 𝓤 H En Post))
+          → ent 𝓤 (⋆ 𝓤 H A (At (holds (machP plan₁)) (holds (machS r)) empty ys o w)) (Wp 𝓤 H C Λ En code.Mir.t-11 (atReturn 𝓤 H En Post))
       replans r ha hr ys o w long one =
           let left : r .left < 2 ^ 64 = LL.owed S.the-type S′.the-laws r (machS r ∷ []) hr .1 .1 .1 .1 .0 .1 in
-          qed W (At (holds (machP plan₁)) (holds (machS r)) empty ys o w) ∵ exec ! C Λ En code.Mir.t-10 (atRet En Post) $
-          assigns ! (of-opd ! (load ! (from ! (fld ! refl (stop !))) (look-in ! 28 (sub ! 1 refl (whole !))))) (from ! (stop !)) (init ! 19 refl (tt, record { fits = roome .0 })) $
-          assigns ! (of-opd ! (load ! (from ! (fld ! refl (stop !))) (look-in ! 25 (sub ! 1 refl (whole !))))) (from ! (stop !)) (init ! 12 refl (tt, record { fits = rooms .out .0 })) $
-          assigns ! (of-opd ! (load ! (from ! (fld ! refl (stop !))) (look-in ! 24 (sub ! 1 refl (whole !))))) (from ! (stop !)) (init ! 11 refl (tt, record { fits = rooms .own .0 })) $
+          qed W (At (holds (machP plan₁)) (holds (machS r)) empty ys o w) ∵ exec ! C Λ En code.Mir.t-11 (atRet En Post) $
+          assigns ! (of-opd ! (load ! (from ! (fld ! refl (stop !))) (look-in ! 29 (sub ! 1 refl (whole !))))) (from ! (stop !)) (init ! 19 refl (tt, record { fits = roome .0 })) $
+          assigns ! (of-opd ! (load ! (from ! (fld ! refl (stop !))) (look-in ! 26 (sub ! 1 refl (whole !))))) (from ! (stop !)) (init ! 12 refl (tt, record { fits = rooms .out .0 })) $
+          assigns ! (of-opd ! (load ! (from ! (fld ! refl (stop !))) (look-in ! 25 (sub ! 1 refl (whole !))))) (from ! (stop !)) (init ! 11 refl (tt, record { fits = rooms .own .0 })) $
           nothing ! $ use1 W (raw (Second 𝓤 H A mem run .pre (to-second plan₁ (r .left) (length (now (Le .d))) (length o₀) (length w₀)))) (goes-second plan₁ (r .left) (length (now (Le .d))) (length o₀) (length w₀)
           (next-pre (now (Lp .d)) (now (Lt .d)) p q (now (Le .d)) (now (Lq .d)) smallest ys₀ o₀ w₀ r ys o w one) ha left (roome .0) (rooms .out .0) (rooms .own .0)) $
           calls-at ! fm (Second 𝓤 H A mem run) (known .second) (to-second plan₁ (r .left) (length (now (Le .d))) (length o₀) (length w₀)) (and-then ! (load ! (from ! (stop !)) (look ! 23 refl)) (and-then ! (load ! (from ! (fld ! refl (stop !))) (look-in ! 22 (sub ! 4 refl (whole !)))) (and-then ! (load ! (from ! (stop !)) (look ! 20 refl)) (and-then ! (load ! (from ! (stop !)) (look ! 13 refl)) (and-then ! (load ! (from ! (stop !)) (look ! 12 refl)) (no-more !)))))) (λ v.
           use1 W (later (given (Is P.the-row (plan₂ r) (v ∷ [])) (‵ ftrue))) (gave-second plan₁ (r .left) (length (now (Le .d))) (length o₀) (length w₀) v) $ await ! tt $ learn ! (λ is.
           let told : v ∷ [] ≡ machP (plan₂ r) ∷ [] = LL.tells P.the-type P′.the-laws (plan₂ r) (v ∷ []) is in
-          drop ! $ land ! (from ! (stop !)) (init ! 20 refl (LL.lawful P.the-type P′.the-laws 𝓤 H A W .typed (plan₂ r) _ is .0)) $ rewrite ! 20 (λ (z : Val). ‵ (fat fullShare P′.mir (l 13) 0 z)) (ap only told) refl $
+          drop ! $ land ! (from ! (stop !)) (init ! 20 refl (LL.lawful P.the-type P′.the-laws 𝓤 H A W .typed (plan₂ r) _ is .0)) $ rewrite ! 20 (λ (z : Val). ‵ (fat fullShare P′.mir (l 14) 0 z)) (ap only told) refl $
           forget ! 19 refl $ forget ! 12 refl $ forget ! 11 refl $
           by ! (again plan₁ (plan₂ r) r (subst (λ (us : List Val). Is P.the-row (plan₂ r) us) told is) ys o w long (second-pre (now (Lp .d)) (now (Lt .d)) p q (now (Le .d)) (now (Lq .d)) smallest ys₀ o₀ w₀ r ys o w one)
           (cells-fit (now (Lp .d)) (now (Lt .d)) p q (now (Le .d)) (now (Lq .d)) smallest ys₀ o₀ w₀ r ys o w one) (searched-of (now (Lp .d)) (now (Lt .d)) p q (now (Le .d)) (now (Lq .d)) smallest ys₀ o₀ w₀ r ys o w one))))
 
       -- the first pass, and what follows it
-      counts : IsP plan₁ → ent 𝓤 (⋆ 𝓤 H A (At (holds (machP plan₁)) empty empty ys₀ o₀ w₀)) (Wp 𝓤 H C Λ En code.Mir.t-3 (atReturn 𝓤 H En Post))
+      counts : IsP plan₁ → ent 𝓤 (⋆ 𝓤 H A (At (holds (machP plan₁)) empty empty ys₀ o₀ w₀)) (Wp 𝓤 H C Λ En code.Mir.t-4 (atReturn 𝓤 H En Post))
       counts ha =
           let are = LL.owed P.the-type P′.the-laws plan₁ (machP plan₁ ∷ []) ha in
-          qed W (At (holds (machP plan₁)) empty empty ys₀ o₀ w₀) ∵ exec ! C Λ En code.Mir.t-3 (atRet En Post) $
-          assigns ! (addr ! (from ! (fld ! refl (hop ! (look-in ! 26 (sub ! 0 refl (whole !))) (stop !))))) (from ! (stop !)) (init ! 18 refl (tt, tt)) $
-          assigns ! (agg ! (and-then ! (load ! (from ! (stop !)) (look ! 18 refl)) (and-then ! (load ! (from ! (fld ! refl (stop !))) (look-in ! 26 (sub ! 1 refl (whole !)))) (no-more !)))) (from ! (stop !)) (init ! 17 refl (tt, (tt, (record { fits = rooms .stack .0 }, tt)))) $
-          assigns ! (addr ! (from ! (fld ! refl (hop ! (look-in ! 25 (sub ! 0 refl (whole !))) (stop !))))) (from ! (stop !)) (init ! 16 refl (tt, tt)) $
-          assigns ! (agg ! (and-then ! (load ! (from ! (stop !)) (look ! 16 refl)) (and-then ! (load ! (from ! (fld ! refl (stop !))) (look-in ! 25 (sub ! 1 refl (whole !)))) (no-more !)))) (from ! (stop !)) (init ! 15 refl (tt, (tt, (record { fits = rooms .out .0 }, tt)))) $
-          assigns ! (addr ! (from ! (fld ! refl (hop ! (look-in ! 24 (sub ! 0 refl (whole !))) (stop !))))) (from ! (stop !)) (init ! 14 refl (tt, tt)) $
-          assigns ! (agg ! (and-then ! (load ! (from ! (stop !)) (look ! 14 refl)) (and-then ! (load ! (from ! (fld ! refl (stop !))) (look-in ! 24 (sub ! 1 refl (whole !)))) (no-more !)))) (from ! (stop !)) (init ! 13 refl (tt, (tt, (record { fits = rooms .own .0 }, tt)))) $
+          qed W (At (holds (machP plan₁)) empty empty ys₀ o₀ w₀) ∵ exec ! C Λ En code.Mir.t-4 (atRet En Post) $
+          assigns ! (addr ! (from ! (fld ! refl (hop ! (look-in ! 27 (sub ! 0 refl (whole !))) (stop !))))) (from ! (stop !)) (init ! 18 refl (tt, tt)) $
+          assigns ! (agg ! (and-then ! (load ! (from ! (stop !)) (look ! 18 refl)) (and-then ! (load ! (from ! (fld ! refl (stop !))) (look-in ! 27 (sub ! 1 refl (whole !)))) (no-more !)))) (from ! (stop !)) (init ! 17 refl (tt, (tt, (record { fits = rooms .stack .0 }, tt)))) $
+          assigns ! (addr ! (from ! (fld ! refl (hop ! (look-in ! 26 (sub ! 0 refl (whole !))) (stop !))))) (from ! (stop !)) (init ! 16 refl (tt, tt)) $
+          assigns ! (agg ! (and-then ! (load ! (from ! (stop !)) (look ! 16 refl)) (and-then ! (load ! (from ! (fld ! refl (stop !))) (look-in ! 26 (sub ! 1 refl (whole !)))) (no-more !)))) (from ! (stop !)) (init ! 15 refl (tt, (tt, (record { fits = rooms .out .0 }, tt)))) $
+          assigns ! (addr ! (from ! (fld ! refl (hop ! (look-in ! 25 (sub ! 0 refl (whole !))) (stop !))))) (from ! (stop !)) (init ! 14 refl (tt, tt)) $
+          assigns ! (agg ! (and-then ! (load ! (from ! (stop !)) (look ! 14 refl)) (and-then ! (load ! (from ! (fld ! refl (stop !))) (look-in ! 25 (sub ! 1 refl (whole !)))) (no-more !)))) (from ! (stop !)) (init ! 13 refl (tt, (tt, (record { fits = rooms .own .0 }, tt)))) $
           use1 W (later (some (λ (n : Names). raw (Pass 𝓤 H A mem run .pre (to-pass n ys₀ o₀ w₀ (plan₁ .state))) ⊛ Kept-pass n ys₀ o₀ w₀))) (opens-pass ys₀ o₀ w₀ (plan₁ .state) (first-pre (now (Lp .d)) (now (Lt .d)) p q (now (Le .d)) (now (Lq .d)) smallest ys₀ o₀ w₀) (are .1 .0)) $ await ! tt $ pick ! (λ n. split ! $
-          calls-at ! fm (Pass 𝓤 H A mem run) (known .pass) (to-pass n ys₀ o₀ w₀ (plan₁ .state)) (and-then ! (load ! (from ! (stop !)) (look ! 18 refl)) (and-then ! (load ! (from ! (stop !)) (look ! 33 refl)) (and-then ! (load ! (from ! (stop !)) (look ! 29 refl)) (and-then ! (load ! (from ! (stop !)) (look ! 28 refl)) (and-then ! (load ! (from ! (stop !)) (look ! 16 refl)) (and-then ! (load ! (from ! (stop !)) (look ! 14 refl)) (and-then ! (load ! (from ! (fld ! refl (stop !))) (look-in ! 23 (sub ! 1 refl (whole !)))) (no-more !)))))))) (λ v.
+          calls-at ! fm (Pass 𝓤 H A mem run) (known .pass) (to-pass n ys₀ o₀ w₀ (plan₁ .state)) (and-then ! (load ! (from ! (stop !)) (look ! 18 refl)) (and-then ! (load ! (from ! (stop !)) (look ! 34 refl)) (and-then ! (load ! (from ! (stop !)) (look ! 30 refl)) (and-then ! (load ! (from ! (stop !)) (look ! 29 refl)) (and-then ! (load ! (from ! (stop !)) (look ! 16 refl)) (and-then ! (load ! (from ! (stop !)) (look ! 14 refl)) (and-then ! (load ! (from ! (fld ! refl (stop !))) (look-in ! 23 (sub ! 1 refl (whole !)))) (no-more !)))))))) (λ v.
           use2 W (later (some (λ (z : After). given (Gave ys₀ o₀ w₀ (plan₁ .state) v z) (All (z .stack) (z .out) (z .own))))) (closes-pass n ys₀ o₀ w₀ (plan₁ .state) v rooms) $ await ! tt $ pick ! (λ z. learn ! (λ gave.
           let told : v ∷ [] ≡ machS (z .state) ∷ [] = LL.tells S.the-type S′.the-laws (z .state) (v ∷ []) (gave .is) in
-          land ! (from ! (stop !)) (init ! 21 refl (LL.lawful S.the-type S′.the-laws 𝓤 H A W .typed (z .state) _ (gave .is) .0)) $ rewrite ! 21 (λ (x : Val). ‵ (fat fullShare S′.mir (l 12) 0 x)) (ap only told) refl $
-          empties-from 𝓤 H A W 13 locals (held empty (holds _) (holds _) empty (empty ∷ holds _ ∷ holds _ ∷ holds _ ∷ holds _ ∷ holds _ ∷ holds _ ∷ [])) l (All (z .stack) (z .out) (z .own) ∷ []) (raw (diesOf 𝓤 H A W locals l) ∷ []) _ $
+          land ! (from ! (stop !)) (init ! 21 refl (LL.lawful S.the-type S′.the-laws 𝓤 H A W .typed (z .state) _ (gave .is) .0)) $ rewrite ! 21 (λ (x : Val). ‵ (fat fullShare S′.mir (l 13) 0 x)) (ap only told) refl $
+          empties-from 𝓤 H A W 14 locals (held empty (holds _) (holds _) (holds _) empty (empty ∷ holds _ ∷ holds _ ∷ holds _ ∷ holds _ ∷ holds _ ∷ holds _ ∷ [])) l (All (z .stack) (z .out) (z .own) ∷ []) (raw (diesOf 𝓤 H A W locals l) ∷ []) _ $
           by ! (replans (z .state) ha (subst (λ (us : List Val). Is S.the-row (z .state) us) told (gave .is)) (z .stack) (z .out) (z .own) (record { stack = gave .stackLong; out = gave .outLong; own = gave .ownLong }) (gave .said))))))
 
-      -- the body, once the parameters are in their locals
-      begins : ent 𝓤 (⋆ 𝓤 H A (At empty empty empty ys₀ o₀ w₀)) (Wp 𝓤 H C Λ En code.Mir.t-1 (atReturn 𝓤 H En Post))
-      begins =
-          qed W (At empty empty empty ys₀ o₀ w₀) ∵ exec ! C Λ En code.Mir.t-1 (atRet En Post) $
-          assigns ! (of-opd ! (load ! (from ! (fld ! refl (stop !))) (look-in ! 26 (sub ! 1 refl (whole !))))) (from ! (stop !)) (init ! 19 refl (tt, record { fits = rooms .stack .0 })) $
-          use1 W (raw (First 𝓤 H A mem run .pre (to-first (length ys₀))) ⊛ Kept-first ys₀ o₀ w₀) (opens-first (length ys₀) ys₀ o₀ w₀ (rooms .stack .0)) $ split ! $
-          calls-at ! fm (First 𝓤 H A mem run) (known .first) (to-first (length ys₀)) (and-then ! (load ! (from ! (stop !)) (look ! 33 refl)) (and-then ! (load ! (from ! (stop !)) (look ! 32 refl)) (and-then ! (load ! (from ! (stop !)) (look ! 31 refl)) (and-then ! (load ! (from ! (stop !)) (look ! 30 refl)) (and-then ! (load ! (from ! (stop !)) (look ! 29 refl)) (and-then ! (load ! (from ! (stop !)) (look ! 28 refl)) (and-then ! (load ! (from ! (stop !)) (look ! 20 refl)) (and-then ! (load ! (from ! (stop !)) (look ! 24 refl)) (no-more !))))))))) (λ v.
-          use2 W (later (given (Is P.the-row plan₁ (v ∷ [])) (All ys₀ o₀ w₀))) (closes-first (length ys₀) ys₀ o₀ w₀ v) $ await ! tt $ learn ! (λ is.
+      -- the first plan, once the index has been checked, and what follows it
+      plans : IsR checked₁ → ent 𝓤 (⋆ 𝓤 H A (Start (holds (machR checked₁)) empty)) (Wp 𝓤 H C Λ En code.Mir.t-3 (atReturn 𝓤 H En Post))
+      plans hc =
+          qed W (Start (holds (machR checked₁)) empty) ∵ exec ! C Λ En code.Mir.t-3 (atRet En Post) $
+          nothing ! $ use1 W (raw (First 𝓤 H A mem run .pre (to-first checked₁))) (goes-first checked₁ hc) $
+          calls-at ! fm (First 𝓤 H A mem run) (known .first) (to-first checked₁) (and-then ! (load ! (from ! (stop !)) (look ! 24 refl)) (and-then ! (load ! (from ! (stop !)) (look ! 25 refl)) (no-more !))) (λ v.
+          use1 W (later (given (Is P.the-row plan₁ (v ∷ [])) (‵ ftrue))) (gave-first checked₁ v) $ await ! tt $ learn ! (λ is.
           let told : v ∷ [] ≡ machP plan₁ ∷ [] = LL.tells P.the-type P′.the-laws plan₁ (v ∷ []) is in
-          land ! (from ! (stop !)) (init ! 22 refl (LL.lawful P.the-type P′.the-laws 𝓤 H A W .typed plan₁ _ is .0)) $ rewrite ! 22 (λ (z : Val). ‵ (fat fullShare P′.mir (l 11) 0 z)) (ap only told) refl $
-          forget ! 19 refl $ by ! (counts (subst (λ (us : List Val). Is P.the-row plan₁ us) told is))))
+          drop ! $ land ! (from ! (stop !)) (init ! 22 refl (LL.lawful P.the-type P′.the-laws 𝓤 H A W .typed plan₁ _ is .0)) $ rewrite ! 22 (λ (z : Val). ‵ (fat fullShare P′.mir (l 12) 0 z)) (ap only told) refl $
+          by ! (counts (subst (λ (us : List Val). Is P.the-row plan₁ us) told is))))
+
+      -- the body, once the parameters are in their locals
+      begins : ent 𝓤 (⋆ 𝓤 H A (Start empty empty)) (Wp 𝓤 H C Λ En code.Mir.t-1 (atReturn 𝓤 H En Post))
+      begins =
+          qed W (Start empty empty) ∵ exec ! C Λ En code.Mir.t-1 (atRet En Post) $
+          assigns ! (of-opd ! (load ! (from ! (fld ! refl (stop !))) (look-in ! 27 (sub ! 1 refl (whole !))))) (from ! (stop !)) (init ! 19 refl (tt, record { fits = rooms .stack .0 })) $
+          use1 W (raw (Check 𝓤 H A mem run .pre (to-check (length ys₀))) ⊛ Kept-check ys₀ o₀ w₀) (opens-check (length ys₀) ys₀ o₀ w₀ (rooms .stack .0)) $ split ! $
+          calls-at ! fm (Check 𝓤 H A mem run) (known .check) (to-check (length ys₀)) (and-then ! (load ! (from ! (stop !)) (look ! 34 refl)) (and-then ! (load ! (from ! (stop !)) (look ! 33 refl)) (and-then ! (load ! (from ! (stop !)) (look ! 32 refl)) (and-then ! (load ! (from ! (stop !)) (look ! 31 refl)) (and-then ! (load ! (from ! (stop !)) (look ! 30 refl)) (and-then ! (load ! (from ! (stop !)) (look ! 29 refl)) (and-then ! (load ! (from ! (stop !)) (look ! 20 refl)) (no-more !)))))))) (λ v.
+          use2 W (later (given (Is R.the-row checked₁ (v ∷ [])) (All ys₀ o₀ w₀))) (closes-check (length ys₀) ys₀ o₀ w₀ v) $ await ! tt $ learn ! (λ is.
+          let told : v ∷ [] ≡ machR checked₁ ∷ [] = LL.tells R.the-type R′.the-laws checked₁ (v ∷ []) is in
+          land ! (from ! (stop !)) (init ! 23 refl (LL.lawful R.the-type R′.the-laws 𝓤 H A W .typed checked₁ _ is .0)) $ rewrite ! 23 (λ (z : Val). ‵ (fat fullShare R′.mir (l 11) 0 z)) (ap only told) refl $
+          forget ! 19 refl $ by ! (plans (subst (λ (us : List Val). Is R.the-row checked₁ us) told is))))
 
     -- the arguments' values
     abbrev given-vals : List Val
@@ -580,6 +630,7 @@ search-spec 𝓤 H 𝓜 𝓖 𝓡 =
     entered 𝓤 H (tripleOf 𝓤 H (𝓖 .A) search′.signature (search′.spec 𝓤 H (𝓖 .A) (𝓜 .mem) (𝓡 .run)))
     (tables 𝓤 H 𝓜 𝓡 code.env .C) (tables 𝓤 H 𝓜 𝓡 code.env .Λ) #search code.function (code.unfolded 𝓤 H 𝓜 𝓡)
     (search-meets 𝓤 H (𝓖 .A) (givenOf 𝓤 H 𝓜 𝓖) (𝓜 .mem) (𝓡 .run) (tablesOf 𝓤 H 𝓜 (tables 𝓤 H 𝓜 𝓡 code.env)) (record {
+      check = cited 𝓤 H (Check 𝓤 H (𝓖 .A) (𝓜 .mem) (𝓡 .run)) 𝓜 𝓡 code.env #check check-def.routine code.calls-depot·check (check-thm.met 𝓤 H 𝓜 𝓖 𝓡);
       first = cited 𝓤 H (First 𝓤 H (𝓖 .A) (𝓜 .mem) (𝓡 .run)) 𝓜 𝓡 code.env #first first-def.routine code.calls-engine·plans·first (first-thm.met 𝓤 H 𝓜 𝓖 𝓡);
       pass = cited 𝓤 H (Pass 𝓤 H (𝓖 .A) (𝓜 .mem) (𝓡 .run)) 𝓜 𝓡 code.env #pass pass-def.routine code.calls-engine·passes·pass (pass-thm.met 𝓤 H 𝓜 𝓖 𝓡);
       second = cited 𝓤 H (Second 𝓤 H (𝓖 .A) (𝓜 .mem) (𝓡 .run)) 𝓜 𝓡 code.env #second second-def.routine code.calls-engine·plans·second (second-thm.met 𝓤 H 𝓜 𝓖 𝓡);

@@ -89,7 +89,7 @@ planAt r b = record {
   cells = cond (eqb (r .refusal) SIZE) 0 64;
 }
 
-unfoldable pub firstPlan : Index → ℕ → Bool → Plan
+abbrev pub firstPlan : Index → ℕ → Bool → Plan
 firstPlan I s b = planAt (depotChecked I s (totalled accepted 0)) b
 
 pub record FitsPre (m k : ℕ) : Type 0 where

@@ -1,0 +1,13 @@
+//! What the tests of wrong programs share.
+
+/// The slips, and a list of all of them.
+macro_rules! slips {
+    ($($slip:ident,)*) => {
+        #[derive(Clone, Copy, PartialEq, Eq, Debug)]
+        enum Slip {
+            $($slip,)*
+        }
+
+        const ALL: &[Slip] = &[$(Slip::$slip,)*];
+    };
+}
