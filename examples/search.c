@@ -46,5 +46,11 @@ int main(void) {
     static sq_entry stack[64];
     sq_reply s = sq_merge_slca(parents, N, tags, N, P, 0, ends, P, occurrences, ends[P - 1], stack, 64, out, N);
     print(s, out);
+
+    int lost = ferror(stdout);
+    if (fclose(stdout) != 0 || lost) {
+        perror("standard output");
+        return 1;
+    }
     return r.refusal == SQ_OK && s.refusal == SQ_OK ? 0 : 1;
 }

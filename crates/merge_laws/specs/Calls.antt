@@ -2,7 +2,7 @@
 --   StackLeft r ys ys′  == what a reply leaves in the stack
 --   MergeReplied …      == what is the same for both searches: when SIZE is given, that COUNT never is, and the stack
 --   MergeElcaDemands, MergeSlcaDemands   == all that is demanded of a call of each search
--- SIZE in plain words is `DepotSized` (`merge`, specs/Plain). All else is demanded in the words of the searches with counts (`demands`, specs/Calls), of the same index with right counts.
+-- SIZE in plain words is `DepotSized` (`depot`, specs/Plain). All else is demanded in the words of the searches with counts (`demands`, specs/Calls), of the same index with right counts.
 -- proofs/Calls shows that each is the same as the contract of the search.
 -- Letters: I index; ys, o, s what was lent as stack, out and own, ys′, o′, s′ what they are at the end; r reply; w work; i entry. Assumes nothing.
 use Prim.Native.Nat.{ℕ, _≤_, _<_}
