@@ -1,5 +1,5 @@
 -- Which nodes are listed, in plain words: each test passes exactly where its plain statement holds. Assumes nothing.
---   ancestor-plain, full-plain, slca-plain, own-plain, elca-plain     the answers of ELCA and SLCA
+--   ancestor-plain, occurs-plain, full-plain, slca-plain, own-plain, elca-plain     the answers of ELCA and SLCA
 --   negator-plain, valid-plain, valid-slca-plain                      the answers of the search with NOT
 -- Letters: p parents, t tags; k words and W their lists, q negative words and N theirs; v node, u another, x occurrence, j word, l list. Lists may hold a node more than once.
 use Prim.Native.Nat.{ℕ, _<_}
@@ -35,7 +35,7 @@ module _ (p : List ℕ) (d : Down p (length p)) where
     λ r. properly-of p v u (under-of-plain p (length p) d v u l (r .above)) (r .other),
   )
 
-  occurs-plain : (l : List ℕ) → EachBelow (length p) l → (v : ℕ) → Entry (under p v) l ↔ Occurs p l v
+  pub occurs-plain : (l : List ℕ) → EachBelow (length p) l → (v : ℕ) → Entry (under p v) l ↔ Occurs p l v
   occurs-plain l b v = (
     λ r. record { place = r .at; within = r .below; under = under-plain p (length p) d v (getD l (r .at) 0) (b (r .at) (r .below)) (r .passes) },
     λ r. record { at = r .place; below = r .within; passes = under-of-plain p (length p) d v (getD l (r .place) 0) (b (r .place) (r .within)) (r .under) },
