@@ -1,5 +1,5 @@
-mod Replying
-mod Leaving
+pub mod Replying
+pub mod Leaving
 mod Searching
 pub mod Calls
 pub mod Unique

@@ -6,10 +6,12 @@ ghost use Rattle.elca.specs.Contracts.{ElcaSearched};
 ghost use Rattle.valid.specs.Contracts.{ValidSearched};
 ghost use Rattle.depot.specs.Depot.{depot};
 ghost use Rattle.merge.specs.Merge.{MergedElca, MergedSlca};
+ghost use Rattle.reason.specs.Contracts.{ExplainedInNumbers};
 ghost use Rattle.reader.specs.Read.{Reads};
 ghost use Rattle.reader.specs.Read as read;
 use engine::Entry;
 use index::Reply;
+use reason::Numbered;
 
 // The index check alone.
 #[no_mangle]
@@ -133,6 +135,26 @@ pub extern "C" fn sq_merge_slca(
         (now (stack .entry)) (now (out .entry)) r (now (stack .exit)) (now (out .exit)) ⌝ }
 {
     merge::slca(parents, tags, p, q, ends, occurrences, stack, out)
+}
+
+// Why a node is listed under ELCA, or is not.
+#[no_mangle]
+pub extern "C" fn sq_reason(
+    parents: &[u32],
+    tags: &[u32],
+    p: u32,
+    q: u32,
+    ends: &[u32],
+    occurrences: &[u32],
+    counts: &[u32],
+    node: u32,
+    work: &mut [u32],
+) -> Numbered
+    ensures { λ r. ⌜ ExplainedInNumbers (lent (now (parents .entry)) (now (tags .entry)) p q (now (ends .entry)) (now (occurrences .entry))
+        (now (counts .entry))) node (now (work .entry)) r (now (work .exit)) ⌝ }
+{
+    let e = reason::explain(parents, tags, p, q, ends, occurrences, counts, node, work);
+    reason::number(e)
 }
 
 // XML text into parents, tags, and each node's first and last place.
