@@ -19,6 +19,8 @@ sq_reply plain_valid(const lent *x, uint32_t *work, size_t work_len, uint32_t *o
 /* These read no counts. */
 sq_reply plain_merge_elca(const lent *x, sq_entry *stack, size_t stack_len, uint32_t *out, size_t out_len, uint32_t *own, size_t own_len);
 sq_reply plain_merge_slca(const lent *x, sq_entry *stack, size_t stack_len, uint32_t *out, size_t out_len);
+/* Why ELCA lists the node, or does not. */
+sq_explanation plain_reason(const lent *x, uint32_t node, uint32_t *work, size_t work_len);
 /* In plain_read.c. */
 sq_reply plain_read(const uint8_t *text, size_t text_len, uint32_t *parents, size_t parents_len, uint32_t *tags, size_t tags_len, uint32_t *firsts, size_t firsts_len,
                     uint32_t *lasts, size_t lasts_len, uint32_t *work, size_t work_len);

@@ -1,7 +1,7 @@
 /* Replays the cases of a case file (second/README.md says its layout) through include/sonquilate.h, from standard input. For
  * each case one line: its number, the call, the reply, and the final content of each slice that the call may write, as its
- * length and a hash: of a search work, out and own, of a search without counts the stack, out and own, of the reader parents,
- * tags, firsts, lasts and work.
+ * length and a hash: of a search work, out and own, of a search without counts the stack, out and own, of a node's reason work,
+ * of the reader parents, tags, firsts, lasts and work. A reason itself stands between the reply and work.
  * Every slice stands between fences of its own, and what is lent to be read is hashed before and after: a write to
  * anything else, or past a slice's ends, stops the run with status 3. In every other case an empty slice is lent
  * as a null pointer. The text stands at every alignment in turn. */
@@ -12,9 +12,11 @@
 
 #define SEARCH_CASE 0x53514C43u
 #define MERGE_CASE 0x53514C4Du
+#define REASON_CASE 0x53514C57u
 #define READ_CASE 0x53514C52u
 #define FENCE 0xA5A5A5A5u
 
+enum { WORDS = 8 }; /* the most that there may be */
 enum { PARENTS, TAGS, ENDS, OCCURRENCES, COUNTS, WORK, OUT, OWN, SLICES };
 enum { CHECK, ELCA, SLCA, VALID, SEARCHES };
 enum { MERGE_ELCA, MERGE_SLCA, MERGES };
@@ -178,19 +180,18 @@ static void replay_search(unsigned long index) {
 /* ---- a search without counts */
 
 enum { MERGE_OUT = OCCURRENCES + 1, MERGE_OWN, MERGE_SLICES };
-enum { ENTRY_WORDS = 8 };
 
 /* Reads an entry, field by field; 0 where the input ends before. */
 static int entry_numbers(sq_entry *to) {
-    return numbers(&to->node, 1) && numbers(to->own, ENTRY_WORDS) && numbers(to->covered, ENTRY_WORDS);
+    return numbers(&to->node, 1) && numbers(to->own, WORDS) && numbers(to->covered, WORDS);
 }
 
 static uint64_t hash_entries(entries stack) {
     uint64_t h = HASH_START;
     for (size_t i = 0; i < stack.length; i++) {
         h = hash_on(h, &stack.at[i].node, 1);
-        h = hash_on(h, stack.at[i].own, ENTRY_WORDS);
-        h = hash_on(h, stack.at[i].covered, ENTRY_WORDS);
+        h = hash_on(h, stack.at[i].own, WORDS);
+        h = hash_on(h, stack.at[i].covered, WORDS);
     }
     return h;
 }
@@ -198,13 +199,13 @@ static uint64_t hash_entries(entries stack) {
 /* The fences of a stack are whole entries. */
 static void set_fence(sq_entry *at) {
     at->node = FENCE;
-    for (int j = 0; j < ENTRY_WORDS; j++)
+    for (int j = 0; j < WORDS; j++)
         at->own[j] = at->covered[j] = FENCE;
 }
 
 static int fence_stands(const sq_entry *at) {
     int stands = at->node == FENCE;
-    for (int j = 0; j < ENTRY_WORDS; j++)
+    for (int j = 0; j < WORDS; j++)
         stands = stands && at->own[j] == FENCE && at->covered[j] == FENCE;
     return stands;
 }
@@ -267,6 +268,43 @@ static void replay_merge(unsigned long index) {
     for (int i = 0; i < MERGE_SLICES; i++)
         take_back(s[i], index);
     take_back_stack(stack, index);
+}
+
+/* ---- a node's reason */
+
+enum { REASON_SLICES = WORK + 1 };
+
+static void print_reason(sq_explanation e) {
+    print_reply(e.reply);
+    printf(" %u %u", (unsigned)e.reason, (unsigned)e.word);
+    for (int j = 0; j < WORDS; j++)
+        printf("%c%u", j == 0 ? ' ' : ',', (unsigned)e.occurrences[j]);
+}
+
+static void try_reason(unsigned long index, uint32_t p, uint32_t q, uint32_t node, const slice *s) {
+    uint64_t before[WORK];
+    slice lent[REASON_SLICES];
+    hash_lent(s, WORK, before);
+    for (int i = 0; i < REASON_SLICES; i++)
+        lent[i] = as_lent(s[i], index);
+    sq_explanation e = sq_reason(LENT(lent[PARENTS]), LENT(lent[TAGS]), p, q, LENT(lent[ENDS]), LENT(lent[OCCURRENCES]),
+                                 LENT(lent[COUNTS]), node, LENT(lent[WORK]));
+    hold_lent(s, WORK, before, index);
+    printf("%lu reason", index);
+    print_reason(e);
+    print_slices(s, WORK, REASON_SLICES);
+}
+
+static void replay_reason(unsigned long index) {
+    uint32_t head[3 + REASON_SLICES];
+    slice s[REASON_SLICES];
+    if (!numbers(head, 3 + REASON_SLICES))
+        stop(1, "no case file", index);
+    for (int i = 0; i < REASON_SLICES; i++)
+        s[i] = lend(head[3 + i], index);
+    try_reason(index, head[0], head[1], head[2], s);
+    for (int i = 0; i < REASON_SLICES; i++)
+        take_back(s[i], index);
 }
 
 /* ---- the reader */
@@ -337,6 +375,8 @@ int main(void) {
             replay_search(index);
         else if (magic == MERGE_CASE)
             replay_merge(index);
+        else if (magic == REASON_CASE)
+            replay_reason(index);
         else if (magic == READ_CASE)
             replay_read(index);
         else

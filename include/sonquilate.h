@@ -107,6 +107,12 @@ extern "C" {
 #define SQ_COUNT 4u
 #define SQ_ROOM 5u
 #define SQ_MARKUP 7u
+#define SQ_NODE 10u
+
+/* The cases of a reason. 0 is none of them: it stands under a refusal. */
+#define SQ_NOT_FULL 1u
+#define SQ_NOT_LISTED 2u
+#define SQ_LISTED 3u
 
 typedef struct sq_reply {
     uint32_t refusal;
@@ -122,6 +128,15 @@ typedef struct sq_entry {
     uint32_t own[8];
     uint32_t covered[8];
 } sq_entry;
+
+/* What sq_reason gives: a reply; the case of the reason, and the word that it names; and the occurrences that the case SQ_LISTED has,
+ * one for each word. What a case does not have is 0, and so is everything but the reply under a refusal. */
+typedef struct sq_explanation {
+    sq_reply reply;
+    uint32_t reason;
+    uint32_t word;
+    uint32_t occurrences[8];
+} sq_explanation;
 
 /* The index check alone. q may be above 0.
  * Replies: SQ_SIZE, SQ_TREE, SQ_LIST, SQ_COUNT, in this order, or SQ_OK with total 0. [P: checkReply]
@@ -184,6 +199,26 @@ sq_reply sq_merge_elca(const uint32_t *parents, size_t parents_len, const uint32
 sq_reply sq_merge_slca(const uint32_t *parents, size_t parents_len, const uint32_t *tags, size_t tags_len, uint32_t p,
                        uint32_t q, const uint32_t *ends, size_t ends_len, const uint32_t *occurrences, size_t occurrences_len,
                        sq_entry *stack, size_t stack_len, uint32_t *out, size_t out_len);
+
+/* Why is this node listed? The reason why sq_elca lists a node, or does not, on the same index. q must be 0. Exactly one of three
+ * cases holds of each node, and it is given [P: one-reason]:
+ *   SQ_NOT_FULL    the node is not full: word `word` has no occurrence under it, and each word before it has one
+ *   SQ_NOT_LISTED  the node is full, but its own count for word `word` is 0, and that for each word before it is not: every
+ *                  occurrence of this word under the node is under a full node below it
+ *   SQ_LISTED      sq_elca lists the node; occurrences[j] is the lowest of its own occurrences of word j, for each j below p; word
+ *                  is 0, and so are the occurrences from p on
+ * In the other two cases all 8 occurrences are 0. Words are counted from 0. A word with an empty list is missing under every
+ * node, and is no refusal. In a dispatcher's words, where word 0 is a station and word 1 a clock change:
+ *   "node 7 is not full: word 1 does not occur under it"
+ *   "node 1 is full, but every occurrence of word 1 under it is under a smaller full node"
+ *   "node 0 is listed: word 0 is its own at node 17, word 1 at node 15"
+ * Replies: those of sq_check in its order, then SQ_NODE where node is n or more, or SQ_OK. Place and total of SQ_NODE and of SQ_OK
+ * are 0. [P: reasonReply]
+ * Buffers: work as above. [P: workAfter] */
+sq_explanation sq_reason(const uint32_t *parents, size_t parents_len, const uint32_t *tags, size_t tags_len, uint32_t p,
+                         uint32_t q, const uint32_t *ends, size_t ends_len, const uint32_t *occurrences,
+                         size_t occurrences_len, const uint32_t *counts, size_t counts_len, uint32_t node, uint32_t *work,
+                         size_t work_len);
 
 /* The reader: from the bytes of a text to its tree, as above. With 65,536 entries in each of parents, tags, firsts and lasts and
  * 196,608 in work it never gives SQ_ROOM.

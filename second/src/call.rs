@@ -26,6 +26,9 @@ impl Search {
     }
 }
 
+/// "p from 1 to 8; k at most 8": the most words there may be.
+pub const WORDS: usize = 8;
+
 /// One call with everything lent to it. Every slice may have any length, and
 /// p and q may be any number of 32 bits.
 #[derive(Clone, PartialEq, Eq, Debug)]
@@ -63,12 +66,22 @@ pub const COUNT: u32 = 4;
 pub const ROOM: u32 = 5;
 pub const INPUT: u32 = 6;
 pub const MARKUP: u32 = 7;
+pub const NODE: u32 = 10;
 
 /// The name of a refusal number.
 pub fn refusal_name(number: u32) -> &'static str {
-    [
-        "accepted", "SIZE", "TREE", "LIST", "COUNT", "ROOM", "INPUT", "MARKUP",
-    ][number as usize]
+    match number {
+        ACCEPTED => "accepted",
+        SIZE => "SIZE",
+        TREE => "TREE",
+        LIST => "LIST",
+        COUNT => "COUNT",
+        ROOM => "ROOM",
+        INPUT => "INPUT",
+        MARKUP => "MARKUP",
+        NODE => "NODE",
+        _ => unreachable!("no call gives refusal {number}"),
+    }
 }
 
 #[derive(Clone, Copy, PartialEq, Eq, Debug)]

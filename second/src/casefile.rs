@@ -6,14 +6,18 @@
 //! contents in the same order. Of a search without counts: its magic number, the
 //! search (0 elca, 1 slca), p, q, the lengths of parents, tags, ends,
 //! occurrences, stack, out and own, then their contents, an entry of the stack
-//! as its 17 numbers. Of the reader: its magic number, the lengths of text,
-//! parents, tags, firsts, lasts and work, then their contents, the text with up
-//! to three bytes of 0 behind it. A file is cases one after the other.
+//! as its 17 numbers. Of a reason: its magic number, p, q, the node, the lengths
+//! of parents, tags, ends, occurrences, counts and work, then their contents. Of
+//! the reader: its magic number, the lengths of text, parents, tags, firsts,
+//! lasts and work, then their contents, the text with up to three bytes of 0
+//! behind it. A file is cases one after the other.
 
 use crate::call::{After, Call, Reply, Search};
 use crate::judge;
 use crate::merge;
 use crate::merge::call::{Entry, Merge, Merged, Merging, NUMBERS};
+use crate::reason;
+use crate::reason::call::{Reasoned, Reasoning};
 use crate::xml;
 use crate::xml::call::{Read as ReadAfter, Reading};
 use crate::xml::seen::{characters, seen, Seen};
@@ -22,12 +26,14 @@ use std::io::{self, Read, Write};
 pub const MAGIC: u32 = 0x5351_4C43;
 pub const MERGING: u32 = 0x5351_4C4D;
 pub const READING: u32 = 0x5351_4C52;
+pub const REASONING: u32 = 0x5351_4C57;
 
 /// A case of any kind.
 #[derive(Clone, PartialEq, Eq, Debug)]
 pub enum Case {
     Search(Call),
     Merging(Merging),
+    Reasoning(Reasoning),
     Reading(Reading),
 }
 
@@ -38,6 +44,17 @@ fn bytes(numbers: &[u32]) -> Vec<u8> {
 /// The zeros behind a text.
 fn padding(length: usize) -> usize {
     (4 - length % 4) % 4
+}
+
+/// Writes what a case begins with, the lengths of its slices, and their contents.
+fn write_slices(sink: &mut impl Write, begin: &[u32], slices: &[&Vec<u32>]) -> io::Result<()> {
+    let mut head = begin.to_vec();
+    head.extend(slices.iter().map(|slice| slice.len() as u32));
+    sink.write_all(&bytes(&head))?;
+    for slice in slices {
+        sink.write_all(&bytes(slice))?;
+    }
+    Ok(())
 }
 
 fn write_search(sink: &mut impl Write, call: &Call) -> io::Result<()> {
@@ -52,13 +69,7 @@ fn write_search(sink: &mut impl Write, call: &Call) -> io::Result<()> {
         &call.own,
     ];
     let search = Search::ALL.iter().position(|&s| s == call.search).unwrap();
-    let mut head = vec![MAGIC, search as u32, call.p, call.q];
-    head.extend(slices.iter().map(|slice| slice.len() as u32));
-    sink.write_all(&bytes(&head))?;
-    for slice in slices {
-        sink.write_all(&bytes(slice))?;
-    }
-    Ok(())
+    write_slices(sink, &[MAGIC, search as u32, call.p, call.q], &slices)
 }
 
 /// The numbers of a stack, entry by entry.
@@ -85,6 +96,18 @@ fn write_merging(sink: &mut impl Write, call: &Merging) -> io::Result<()> {
     Ok(())
 }
 
+fn write_reasoning(sink: &mut impl Write, call: &Reasoning) -> io::Result<()> {
+    let slices = [
+        &call.parents,
+        &call.tags,
+        &call.ends,
+        &call.occurrences,
+        &call.counts,
+        &call.work,
+    ];
+    write_slices(sink, &[REASONING, call.p, call.q, call.node], &slices)
+}
+
 fn write_reading(sink: &mut impl Write, call: &Reading) -> io::Result<()> {
     let slices = [&call.parents, &call.tags, &call.firsts, &call.lasts, &call.work];
     let mut head = vec![READING, call.text.len() as u32];
@@ -103,6 +126,7 @@ pub fn write(sink: &mut impl Write, case: &Case) -> io::Result<()> {
     match case {
         Case::Search(call) => write_search(sink, call),
         Case::Merging(call) => write_merging(sink, call),
+        Case::Reasoning(call) => write_reasoning(sink, call),
         Case::Reading(call) => write_reading(sink, call),
     }
 }
@@ -177,6 +201,22 @@ fn read_merging(source: &mut impl Read) -> io::Result<Merging> {
     })
 }
 
+fn read_reasoning(source: &mut impl Read) -> io::Result<Reasoning> {
+    let head = read_numbers(source, 9)?;
+    let mut slice = |i: usize| read_numbers(source, head[3 + i]);
+    Ok(Reasoning {
+        p: head[0],
+        q: head[1],
+        node: head[2],
+        parents: slice(0)?,
+        tags: slice(1)?,
+        ends: slice(2)?,
+        occurrences: slice(3)?,
+        counts: slice(4)?,
+        work: slice(5)?,
+    })
+}
+
 fn read_reading(source: &mut impl Read) -> io::Result<Reading> {
     let head = read_numbers(source, 6)?;
     let text = read_bytes(source, u64::from(head[0]))?;
@@ -202,6 +242,8 @@ pub fn read(source: &mut impl Read) -> io::Result<Option<Case>> {
         Ok(Some(Case::Search(read_search(source)?)))
     } else if first == MERGING.to_le_bytes() {
         Ok(Some(Case::Merging(read_merging(source)?)))
+    } else if first == REASONING.to_le_bytes() {
+        Ok(Some(Case::Reasoning(read_reasoning(source)?)))
     } else if first == READING.to_le_bytes() {
         Ok(Some(Case::Reading(read_reading(source)?)))
     } else {
@@ -260,6 +302,19 @@ pub fn merging_line(index: usize, merge: Merge, after: &Merged) -> String {
     )
 }
 
+/// `INDEX reason refusal place total REASON WORD O W`, without the line end.
+pub fn reasoning_line(index: usize, after: &Reasoned) -> String {
+    let occurrences = after.explanation.occurrences.map(|u| u.to_string());
+    format!(
+        "{index} reason {} {} {} {} {}",
+        print_reply(after.reply),
+        after.explanation.reason,
+        after.explanation.word,
+        occurrences.join(","),
+        print(&after.work),
+    )
+}
+
 /// `INDEX read refusal place total P T F L W`, without the line end.
 pub fn reading_line(index: usize, after: &ReadAfter) -> String {
     format!(
@@ -278,6 +333,7 @@ pub fn expected(index: usize, case: &Case) -> String {
     match case {
         Case::Search(call) => line(index, call.search, &judge::judge(call)),
         Case::Merging(call) => merging_line(index, call.merge, &merge::judge::judge(call)),
+        Case::Reasoning(call) => reasoning_line(index, &reason::judge::judge(call)),
         Case::Reading(call) => reading_line(index, &xml::judge::judge(call)),
     }
 }

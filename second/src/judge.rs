@@ -37,6 +37,17 @@ pub fn list((nodes, counts): (Vec<u32>, Vec<u32>), out: &mut [u32], own: &mut [u
     }
 }
 
+/// What a refusal, or acceptance, leaves in work.
+pub fn work_after(call: &Call, refusal: u32) -> Vec<u32> {
+    let mut work = call.work.clone();
+    if refusal != SIZE {
+        // Past SIZE these numbers are small and work is long enough.
+        let used = (call.k() as usize + 2) * call.n();
+        work[..used].fill(0);
+    }
+    work
+}
+
 pub fn judge(call: &Call) -> After {
     let mut out = call.out.clone();
     let mut own = call.own.clone();
@@ -44,15 +55,9 @@ pub fn judge(call: &Call) -> After {
         Err(refusal) => refusal,
         Ok(index) => list(answer(call.search, &index), &mut out, &mut own),
     };
-    let mut work = call.work.clone();
-    if reply.refusal != SIZE {
-        // Past SIZE these numbers are small and work is long enough.
-        let used = (call.k() as usize + 2) * call.n();
-        work[..used].fill(0);
-    }
     After {
         reply,
-        work,
+        work: work_after(call, reply.refusal),
         out,
         own,
     }

@@ -1,7 +1,9 @@
 //! The commands. See the README for what they read and write.
 
 use second::casefile::Case;
-use second::gen::{large, large_merges, large_texts, merges, near, reading, small, tables};
+use second::gen::{
+    large, large_merges, large_reasons, large_texts, merges, near, reading, reasons, small, tables,
+};
 use second::xml::seen::seen;
 use second::{casefile, show, table};
 use std::fs::File;
@@ -16,6 +18,8 @@ usage:
   second large SEED              the large cases to standard output
   second merges SEED COUNT       COUNT small cases of the searches without counts to standard output
   second large-merges SEED       the large cases of the searches without counts to standard output
+  second reasons SEED COUNT      COUNT small cases of a node's reason to standard output
+  second large-reasons SEED      the large cases of a node's reason to standard output
   second texts SEED COUNT        COUNT small cases of the reader to standard output
   second near-texts              every text next to some small ones, as cases of the reader
   second large-texts SEED        the large cases of the reader to standard output
@@ -106,7 +110,7 @@ fn print_seen(file: &str) -> io::Result<()> {
     each_case(file, |index, case| {
         let lines = match &case {
             Case::Reading(call) => casefile::seen_lines(index, &call.text),
-            Case::Search(_) | Case::Merging(_) => None,
+            Case::Search(_) | Case::Merging(_) | Case::Reasoning(_) => None,
         };
         let lines = lines.ok_or_else(|| other(format!("case {index} is not plain")))?;
         sink.write_all(lines.as_bytes())
@@ -164,6 +168,19 @@ fn run(words: &[&str]) -> Result<(), Trouble> {
             write_cases(
                 (0..large_merges::how_many())
                     .map(|case| Case::Merging(large_merges::large(seed, case).merging)),
+            )?
+        }
+        ["reasons", seed, count] => {
+            let seed = number(seed)?;
+            write_cases(
+                (0..number(count)?).map(|case| Case::Reasoning(reasons::small(seed, case).reasoning)),
+            )?
+        }
+        ["large-reasons", seed] => {
+            let seed = number(seed)?;
+            write_cases(
+                (0..large_reasons::how_many())
+                    .map(|case| Case::Reasoning(large_reasons::large(seed, case).0)),
             )?
         }
         ["texts", seed, count] => {

@@ -5,13 +5,19 @@ use crate::casefile::Case;
 use crate::judge::judge;
 use crate::merge;
 use crate::merge::call::{Entry, Merging};
+use crate::reason;
+use crate::reason::call::{reason_name, Reasoning};
 use crate::xml;
 use crate::xml::call::Reading;
 use std::fmt::Write;
 
-fn row(text: &mut String, name: &str, numbers: &[u32]) {
+fn joined(numbers: &[u32]) -> String {
     let list: Vec<String> = numbers.iter().map(u32::to_string).collect();
-    writeln!(text, "{name} ({}): {}", numbers.len(), list.join(",")).unwrap();
+    list.join(",")
+}
+
+fn row(text: &mut String, name: &str, numbers: &[u32]) {
+    writeln!(text, "{name} ({}): {}", numbers.len(), joined(numbers)).unwrap();
 }
 
 fn reply_row(text: &mut String, reply: Reply) {
@@ -31,6 +37,7 @@ pub fn show(case: &Case) -> String {
     match case {
         Case::Search(call) => show_search(call),
         Case::Merging(call) => show_merging(call),
+        Case::Reasoning(call) => show_reasoning(call),
         Case::Reading(call) => show_reading(call),
     }
 }
@@ -48,7 +55,16 @@ fn list_rows(text: &mut String, ends: &[u32], occurrences: &[u32]) {
     }
 }
 
-/// Counts are parted by word as far as their length allows.
+/// The counts, parted by word as far as their length allows.
+fn count_rows(text: &mut String, n: usize, counts: &[u32]) {
+    row(text, "counts", counts);
+    if n > 0 {
+        for (j, part) in counts.chunks(n).enumerate() {
+            row(text, &format!("  counts {j}"), part);
+        }
+    }
+}
+
 fn show_search(call: &Call) -> String {
     let mut text = String::new();
     writeln!(
@@ -63,12 +79,7 @@ fn show_search(call: &Call) -> String {
     row(&mut text, "parents", &call.parents);
     row(&mut text, "tags", &call.tags);
     list_rows(&mut text, &call.ends, &call.occurrences);
-    row(&mut text, "counts", &call.counts);
-    if call.n() > 0 {
-        for (j, part) in call.counts.chunks(call.n()).enumerate() {
-            row(&mut text, &format!("  counts {j}"), part);
-        }
-    }
+    count_rows(&mut text, call.n(), &call.counts);
     row(&mut text, "work", &call.work);
     row(&mut text, "out", &call.out);
     row(&mut text, "own", &call.own);
@@ -111,6 +122,35 @@ fn show_merging(call: &Merging) -> String {
     stack_rows(&mut text, "stack after", &after.stack);
     row(&mut text, "out after", &after.out);
     row(&mut text, "own after", &after.own);
+    text
+}
+
+fn show_reasoning(call: &Reasoning) -> String {
+    let mut text = String::new();
+    let n = call.parents.len();
+    writeln!(
+        text,
+        "reason  p {}  q {}  n {n}  node {}",
+        call.p, call.q, call.node
+    )
+    .unwrap();
+    row(&mut text, "parents", &call.parents);
+    row(&mut text, "tags", &call.tags);
+    list_rows(&mut text, &call.ends, &call.occurrences);
+    count_rows(&mut text, n, &call.counts);
+    row(&mut text, "work", &call.work);
+    let after = reason::judge::judge(call);
+    reply_row(&mut text, after.reply);
+    writeln!(
+        text,
+        "reason: {} ({})  word {}  occurrences {}",
+        after.explanation.reason,
+        reason_name(after.explanation.reason),
+        after.explanation.word,
+        joined(&after.explanation.occurrences)
+    )
+    .unwrap();
+    row(&mut text, "work after", &after.work);
     text
 }
 

@@ -2,7 +2,7 @@
 
 mod common;
 
-use common::lawful;
+use common::{chain, lawful};
 use second::call::{Call, Reply, Search, ACCEPTED, COUNT, LIST, ROOM, SIZE, TREE};
 use second::judge::judge;
 
@@ -20,11 +20,6 @@ fn listed(total: u32) -> Reply {
         place: 0,
         total,
     }
-}
-
-/// A chain of n nodes, each the child of the one before.
-fn chain(n: u32) -> Vec<u32> {
-    (0..n).map(|i| i.saturating_sub(1)).collect()
 }
 
 /// n nodes, all children of the root.

@@ -13,16 +13,7 @@ use std::collections::BTreeSet;
 #[test]
 fn cases_come_back_as_written() {
     let calls: Vec<_> = (0..500).map(|number| Case::Search(small(5, number).0)).collect();
-    let mut file = Vec::new();
-    for call in &calls {
-        write(&mut file, call).unwrap();
-    }
-    let mut rest = file.as_slice();
-    let mut back = Vec::new();
-    while let Some(call) = read(&mut rest).unwrap() {
-        back.push(call);
-    }
-    assert_eq!(calls, back);
+    common::come_back(&calls);
 }
 
 #[test]

@@ -3,18 +3,12 @@
 
 mod common;
 
-use common::lawful;
+use common::{chain, lawful, A, PARENTS, TAGS, U, Z};
 use second::call::{Reply, ACCEPTED, COUNT, LIST, ROOM, SIZE, TREE};
 use second::gen::merges::twin;
 use second::judge;
 use second::merge::call::{Entry, Merge, Merged, Merging, NUMBERS};
 use second::merge::judge::judge;
-
-const PARENTS: [u32; 18] = [0, 0, 1, 2, 3, 2, 5, 1, 7, 8, 7, 10, 0, 12, 13, 14, 0, 16];
-const TAGS: [u32; 18] = [1, 2, 3, 4, 0, 5, 0, 3, 4, 0, 6, 0, 2, 3, 5, 0, 7, 0];
-const A: &[u32] = &[4, 9, 17];
-const Z: &[u32] = &[6, 15];
-const U: &[u32] = &[1, 2];
 
 fn dirty(length: usize) -> Vec<Entry> {
     vec![Entry::of(&[7; NUMBERS]); length]
@@ -121,11 +115,6 @@ fn case_12() {
             accepted(&call, &[], &[]);
         }
     }
-}
-
-/// A chain of n nodes, each the child of the one before.
-fn chain(n: u32) -> Vec<u32> {
-    (0..n).map(|i| i.saturating_sub(1)).collect()
 }
 
 /// A spine down to level 64, and from its end up a leaf beside each node but

@@ -1,6 +1,9 @@
 //! The searches without counts: both engines agree on every generated case; the
 //! case files; and what the generated cases meet.
 
+mod common;
+
+use common::{come_back, room};
 use second::call::{refusal_name, Call, Search, ACCEPTED, COUNT, LIST, ROOM, SIZE, TREE};
 use second::casefile::{expected, fnv1a, read, write, Case};
 use second::count::counts;
@@ -102,16 +105,7 @@ fn cases_come_back_as_written() {
     let cases: Vec<_> = (0..500)
         .map(|number| Case::Merging(small(5, number).merging))
         .collect();
-    let mut file = Vec::new();
-    for case in &cases {
-        write(&mut file, case).unwrap();
-    }
-    let mut rest = file.as_slice();
-    let mut back = Vec::new();
-    while let Some(case) = read(&mut rest).unwrap() {
-        back.push(case);
-    }
-    assert_eq!(cases, back);
+    come_back(&cases);
 }
 
 fn tiny() -> Merging {
@@ -184,17 +178,6 @@ fn the_line_of_a_case() {
             fnv1a(&[1, 9])
         )
     );
-}
-
-/// How a buffer stands to what is needed: too short by one, by more, just long
-/// enough, longer.
-fn room(lent: usize, needed: usize) -> &'static str {
-    match lent {
-        _ if lent + 1 == needed => "one short",
-        _ if lent < needed => "shorter",
-        _ if lent == needed => "exact",
-        _ => "longer",
-    }
 }
 
 #[test]

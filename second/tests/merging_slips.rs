@@ -9,11 +9,11 @@
 #[path = "common/slips.rs"]
 mod common;
 
-use second::call::{Reply, ACCEPTED, LIST, ROOM, SIZE, TREE};
+use second::call::{Reply, ACCEPTED, LIST, ROOM, SIZE, TREE, WORDS};
 use second::gen::large_merges;
 use second::gen::merges::small;
 use second::list::list_fault;
-use second::merge::call::{Entry, Merge, Merged, Merging, WORDS};
+use second::merge::call::{Entry, Merge, Merged, Merging};
 use second::merge::judge::judge;
 use second::tree::{level, tree_fault};
 use std::ops::Range;

@@ -1,5 +1,8 @@
 //! The reader's case files, and what its generated texts meet.
 
+mod common;
+
+use common::come_back;
 use second::call::{refusal_name, ACCEPTED, MARKUP, ROOM, SIZE, TREE};
 use second::casefile::{expected, fnv1a, fnv1a_bytes, read, seen_lines, write, Case};
 use second::gen::reading::small;
@@ -15,17 +18,7 @@ use std::collections::BTreeMap;
 #[test]
 fn readings_come_back_as_written() {
     let calls: Vec<_> = (0..500).map(|number| Case::Reading(small(5, number).0)).collect();
-    let mut file = Vec::new();
-    for call in &calls {
-        write(&mut file, call).unwrap();
-    }
-    assert_eq!(file.len() % 4, 0);
-    let mut rest = file.as_slice();
-    let mut back = Vec::new();
-    while let Some(call) = read(&mut rest).unwrap() {
-        back.push(call);
-    }
-    assert_eq!(calls, back);
+    assert_eq!(come_back(&calls).len() % 4, 0);
 }
 
 fn tiny() -> Case {

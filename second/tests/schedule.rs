@@ -4,20 +4,12 @@
 
 mod common;
 
-use common::{index, lawful};
+use common::{index, lawful, A, PARENTS, T, TAGS, U, X, Z};
 use second::call::{After, Call, Reply, Search, ACCEPTED, COUNT, ROOM};
 use second::elca::own_counts;
 use second::full::full;
 use second::judge::judge;
 use second::valid::negators;
-
-const PARENTS: [u32; 18] = [0, 0, 1, 2, 3, 2, 5, 1, 7, 8, 7, 10, 0, 12, 13, 14, 0, 16];
-const TAGS: [u32; 18] = [1, 2, 3, 4, 0, 5, 0, 3, 4, 0, 6, 0, 2, 3, 5, 0, 7, 0];
-const A: &[u32] = &[4, 9, 17];
-const Z: &[u32] = &[6, 15];
-const X: &[u32] = &[11];
-const T: &[u32] = &[1, 12];
-const U: &[u32] = &[1, 2];
 
 fn call(search: Search, positive: &[&[u32]], negative: &[&[u32]]) -> Call {
     lawful(search, &PARENTS, &TAGS, positive, negative)

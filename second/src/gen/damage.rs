@@ -160,6 +160,23 @@ pub fn damage(rng: &mut Rng, base: &Call, call: &mut Call, kind: Damage) -> bool
     try_damage(rng, base, call, kind).is_some()
 }
 
+/// The call with all the damage done. A kind that does not fit the case gives
+/// way to another.
+pub fn damaged(
+    rng: &mut Rng,
+    base: &Call,
+    kinds: &mut [Damage],
+    another: impl Fn(&mut Rng) -> Damage,
+) -> Call {
+    let mut call = base.clone();
+    for kind in kinds {
+        while !damage(rng, base, &mut call, *kind) {
+            *kind = another(rng);
+        }
+    }
+    call
+}
+
 fn try_damage(rng: &mut Rng, base: &Call, call: &mut Call, kind: Damage) -> Option<()> {
     let n = base.n();
     let k = base.ends.len();

@@ -1,7 +1,7 @@
 //! Small cases of the searches without counts: the twin of each small case of
 //! elca and slca, and cases of their own.
 
-use super::damage::{damage, Damage};
+use super::damage::{damaged, Damage};
 use super::lend::{lend, Plan, Room};
 use super::rng::Rng;
 use super::shape::{tree, Shape, Tags, Tree};
@@ -33,7 +33,7 @@ pub enum Manner {
     Flat,
 }
 
-const MANNERS: &[(usize, Manner)] = &[
+pub const MANNERS: &[(usize, Manner)] = &[
     (20, Manner::Rare),
     (16, Manner::Dense),
     (14, Manner::Twice),
@@ -126,7 +126,8 @@ pub fn twin(call: &Call, stack: Vec<Entry>) -> Merging {
     }
 }
 
-fn some_tree(rng: &mut Rng, manner: Manner) -> Tree {
+/// A tree for words in the manner.
+pub fn some_tree(rng: &mut Rng, manner: Manner) -> Tree {
     let (shape, n) = match manner {
         Manner::Open => (Shape::Comb, rng.pick(&[127, 127, 130, 260, 40, 64])),
         Manner::Deep => (Shape::Chains, rng.range(65, 140)),
@@ -182,7 +183,7 @@ fn lists(rng: &mut Rng, tree: &Tree, manner: Manner, p: usize) -> Vec<Vec<u32>> 
 }
 
 /// A lawful call of elca or slca in the manner.
-fn undamaged(rng: &mut Rng, manner: Manner) -> Call {
+pub fn undamaged(rng: &mut Rng, manner: Manner) -> Call {
     let search = rng.weighted(&[(60, Search::Elca), (40, Search::Slca)]);
     let p = rng.weighted(&[(18, 1), (36, 2), (20, 3), (12, 4), (4, 5), (3, 6), (2, 7), (5, 8)]);
     let p = match manner {
@@ -232,15 +233,9 @@ fn felt(rng: &mut Rng) -> Damage {
 fn own(rng: &mut Rng) -> (Call, Manner, Vec<Damage>) {
     let manner = rng.weighted(MANNERS);
     let base = undamaged(rng, manner);
-    let mut call = base.clone();
     let how_many = rng.weighted(&[(66, 0), (26, 1), (8, 2)]);
     let mut kinds: Vec<Damage> = (0..how_many).map(|_| felt(rng)).collect();
-    // A kind that does not fit the case gives way to another.
-    for kind in &mut kinds {
-        while !damage(rng, &base, &mut call, *kind) {
-            *kind = felt(rng);
-        }
-    }
+    let call = damaged(rng, &base, &mut kinds, felt);
     (call, manner, kinds)
 }
 

@@ -3,12 +3,15 @@
 pub mod damage;
 pub mod large;
 pub mod large_merges;
+pub mod large_reasons;
 pub mod large_texts;
 pub mod lend;
 pub mod merges;
 pub mod near;
 pub mod pen;
+pub mod placed;
 pub mod reading;
+pub mod reasons;
 pub mod rng;
 pub mod shape;
 pub mod small;

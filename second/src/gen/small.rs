@@ -1,6 +1,6 @@
 //! Small cases: mostly 1 to 64 nodes, about half of them undamaged.
 
-use super::damage::{damage, Damage};
+use super::damage::{damaged, Damage};
 use super::lend::{lend, Plan, Room};
 use super::rng::Rng;
 use super::shape::{large_tags, tree, turn_tags, Shape, Tags, Tree};
@@ -209,12 +209,6 @@ pub fn small(seed: u64, number: u64) -> (Call, Vec<Damage>) {
     let mut wanted: Vec<Damage> = (0..how_many).map(|_| rng.pick(Damage::ALL)).collect();
     let tall = wanted.contains(&Damage::Level65) || rng.percent(1);
     let base = undamaged(rng, tall);
-    let mut call = base.clone();
-    // A kind that does not fit the case gives way to another.
-    for kind in &mut wanted {
-        while !damage(rng, &base, &mut call, *kind) {
-            *kind = rng.pick(Damage::ALL);
-        }
-    }
+    let call = damaged(rng, &base, &mut wanted, |rng| rng.pick(Damage::ALL));
     (call, wanted)
 }

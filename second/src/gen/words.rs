@@ -31,14 +31,14 @@ pub enum Kind {
 }
 
 /// Nodes in increasing number, each once.
-fn set(mut nodes: Vec<u32>) -> Vec<u32> {
+pub fn set(mut nodes: Vec<u32>) -> Vec<u32> {
     nodes.sort_unstable();
     nodes.dedup();
     nodes
 }
 
 /// One to three of the nodes; none where there are none.
-fn few_of(rng: &mut Rng, nodes: &[u32]) -> Vec<u32> {
+pub fn few_of(rng: &mut Rng, nodes: &[u32]) -> Vec<u32> {
     if nodes.is_empty() {
         return vec![];
     }

@@ -3,7 +3,7 @@
 //! Q-3: "a stack of at most 64 entries lent by the caller, each entry a node
 //! with its own and covered counts."
 
-use crate::call::{Reply, Search};
+use crate::call::{Reply, Search, WORDS};
 
 #[derive(Clone, Copy, PartialEq, Eq, Debug)]
 pub enum Merge {
@@ -30,10 +30,7 @@ impl Merge {
     }
 }
 
-/// The most words there may be: an entry has counts for each of them.
-pub const WORDS: usize = 8;
-
-/// The numbers of an entry.
+/// The numbers of an entry: its node, and two counts for each word there may be.
 pub const NUMBERS: usize = 1 + 2 * WORDS;
 
 /// An entry of the stack.

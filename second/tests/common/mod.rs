@@ -3,13 +3,56 @@
 #![allow(dead_code)]
 
 use second::call::{After, Call, Index, Search, ACCEPTED};
+use second::casefile::{read, write, Case};
 use second::class::Class;
 use second::count::counts;
 use second::judge::judge;
 use second::list::lists;
 use second::slca::slca;
+use second::tree::{climb, under};
 use second::valid;
 use std::collections::BTreeMap;
+
+// 01, "A small schedule to work by".
+pub const PARENTS: [u32; 18] = [0, 0, 1, 2, 3, 2, 5, 1, 7, 8, 7, 10, 0, 12, 13, 14, 0, 16];
+pub const TAGS: [u32; 18] = [1, 2, 3, 4, 0, 5, 0, 3, 4, 0, 6, 0, 2, 3, 5, 0, 7, 0];
+pub const A: &[u32] = &[4, 9, 17];
+pub const Z: &[u32] = &[6, 15];
+pub const X: &[u32] = &[11];
+pub const T: &[u32] = &[1, 12];
+pub const U: &[u32] = &[1, 2];
+
+/// A chain of n nodes, each the child of the one before.
+pub fn chain(n: u32) -> Vec<u32> {
+    (0..n).map(|i| i.saturating_sub(1)).collect()
+}
+
+/// How a buffer stands to what is needed: too short by one, by more, just long
+/// enough, longer.
+pub fn room(lent: usize, needed: usize) -> &'static str {
+    match lent {
+        _ if lent + 1 == needed => "one short",
+        _ if lent < needed => "shorter",
+        _ if lent == needed => "exact",
+        _ => "longer",
+    }
+}
+
+/// Cases written to a file and read again: they come back as they were. Gives
+/// the file.
+pub fn come_back(cases: &[Case]) -> Vec<u8> {
+    let mut file = Vec::new();
+    for case in cases {
+        write(&mut file, case).unwrap();
+    }
+    let mut rest = file.as_slice();
+    let mut back = Vec::new();
+    while let Some(case) = read(&mut rest).unwrap() {
+        back.push(case);
+    }
+    assert_eq!(cases, back);
+    file
+}
 
 /// An undamaged call with right counts, long buffers and 7 in every entry.
 pub fn lawful(
@@ -52,6 +95,12 @@ pub fn index(call: &Call) -> Index<'_> {
         words: lists(&call.ends, &call.occurrences),
         p: call.p as usize,
     }
+}
+
+/// Whether u is under v, and no node from u up to the child of v is full.
+pub fn is_own(index: &Index, full: &[bool], v: usize, u: u32) -> bool {
+    let mut below = climb(index.parents, u as usize).take_while(|&above| above != v);
+    under(index.parents, v, u as usize) && below.all(|above| !full[above])
 }
 
 /// For each node whether it has a sibling with its tag: 01's own rule for
