@@ -5,7 +5,7 @@
 -- The words of the schedule are those of `answers`. Words are counted from 0, and 8 occurrences are given: those past the last word are 0. Assumes nothing.
 use Prim.Native.Nat.{ℕ, _<_}
 use mathlib.Core.Path.{_≡_, refl}
-use mathlib.Core.List.{List, [], _∷_, _++_}
+use mathlib.Core.List.{List, [], _∷_}
 use mathlib.Core.Bool.{true}
 use lib.ListN.{length, getD, replicate}
 use Rattle.seq.specs.Below.{everyBelow, someBelow, firstFail, tabulate}
@@ -18,7 +18,7 @@ use Rattle.index.specs.Index.{Index, start, wordList, countUnder, trueCount}
 use Rattle.index.specs.Rules.{rises, listOk, lastEndOk, endOk, wordOk, listsBad, countOk, countsBad}
 use Rattle.index.specs.Replies.{nodesOk, wordsOk, lengthsOk, sizeOk, refusing, checked, workAfter}
 use Rattle.answers.specs.Answers.{full, own, ownCount, elca}
-use Rattle.answers.proofs.Claims.{Case, case, Word, word, size, endsFrom, allLists, allCounts, ask, nines, zeros, three, gives, sameLists, holds, holds-is}
+use Rattle.answers.proofs.Claims.{Case, case, word, size, endsFrom, allLists, allCounts, ask, nines, zeros, three, gives, sameLists, holds, holds-is}
 use Rattle.answers.proofs.Cases.{schedule, A, Z, T, U, none, oldA, AZ, A¬X}
 use Rattle.reason.specs.Reasons.{naming, missing, unowned, reasonOf, lowestOwn, lowestOwns}
 use Rattle.reason.specs.Contracts.{reasonReply, explains, toldAfter, lowestAfter}

@@ -1,12 +1,12 @@
 -- From the index check to the search for a reason and back: the outcome of a call in each case. Assumes nothing.
 -- Letters: I index, v node, w what is lent as work; r the check's reply, w₁ work after it; u the node as the code has it, e explanation.
 use Prim.Native.Nat.{ℕ, _+_, _*_, _≤_, _<_}
-use mathlib.Core.Path.{_≡_, sym, ap, ap₂, _∙_, subst}
+use mathlib.Core.Path.{_≡_, sym, ap, ap₂, _∙_}
 use mathlib.Core.List.{List, _++_}
-use mathlib.Core.Bool.{Bool, true, false, cond}
+use mathlib.Core.Bool.{true, false, cond}
 use native.Mathlib.Nat.{add-mul}
 use native.Mathlib.Omega.{arith}
-use lib.Dec.{eqb, ltb}
+use lib.Dec.{ltb}
 use borrow.Author.Tests.{lt-ltb, le-ltb, eq-eqb, ne-eqb}
 use lib.ListN.{length, getD, take, drop, replicate, length-replicate, take-append-drop, getD-replicate}
 use lib.Seq.{length-take-le, getD-take, ext-getD}
@@ -21,8 +21,8 @@ use Rattle.index.proofs.Laws.Replies.{checked-size, checked-refused, checked-ac
 use Rattle.index.proofs.Acceptance.{checked-right, right-accepted}
 use Rattle.reason.specs.declared.Reason.the-variants.{NotFull}
 use Rattle.reason.specs.declared.Explanation.{Explanation}
-use Rattle.reason.specs.declared.finding.Found.{Found}
-use Rattle.reason.specs.Reasons.{Told, told, reasonOf, lowestOwns}
+use Rattle.reason.specs.declared.finding.Why.{Why}
+use Rattle.reason.specs.Reasons.{told, reasonOf, lowestOwns}
 use Rattle.reason.specs.Contracts.{NODE, reasonReply, explains, toldAfter, lowestAfter, Explained}
 use Rattle.reason.specs.Inner.{LookPre, Looked, withReply}
 
@@ -103,7 +103,7 @@ module _ (I : Index) (v : ℕ) (w : List ℕ) where
           zeros = zeros;
         }
 
-        module _ (f : Found) (row : List ℕ) (g : Looked (I .parents) (I .ends) (I .occurrences) u (take (nodes I) w₁) f row) where
+        module _ (f : Why) (row : List ℕ) (g : Looked (I .parents) (I .ends) (I .occurrences) u (take (nodes I) w₁) f row) where
           whole-work : row ++ drop (nodes I) w₁ ≡ workAfter 0 I w
           whole-work = ap (λ (t : List ℕ). t ++ drop (nodes I) w₁) (g .row) ∙ take-append-drop (nodes I) w₁ ∙ work-is
 

@@ -1,7 +1,7 @@
 -- The flags of a node's own, from the node to the last under it: what the loop knows before node u, and how a turn keeps it. Assumes nothing.
 -- Letters: p parents, f the test for full nodes; v node, u the node at hand, x node; fl flags.
 use Prim.Native.Nat.{ℕ, zero, suc, _+_, _≤_, _<_}
-use mathlib.Core.Path.{_≡_, refl, sym, ap, ap₂, _∙_}
+use mathlib.Core.Path.{_≡_, refl, sym, ap, _∙_}
 use mathlib.Core.Logic.{⊎-elim}
 use mathlib.Core.List.{List}
 use mathlib.Core.Bool.{Bool, true, false, not, cond, _&&_}
@@ -20,9 +20,9 @@ use Rattle.tree.proofs.Laws.Lines.{under-cases, under-above}
 use Rattle.tree.proofs.Laws.Under.{under-le, under-not, preorder-down}
 use Rattle.tree.proofs.Laws.Ways.{properly-of}
 use Rattle.tree.proofs.Laws.Spans.{last-below, under-last, span-under, span-start, past-span}
-use Rattle.reason.specs.Inner.{fullBy, ownBy, flagged}
-use Rattle.reason.proofs.Laws.Counts.{flagged-is}
-use Rattle.reason.proofs.Laws.Own.{ownBy-outside, ownBy-self, ownBy-step}
+use Rattle.reason.specs.Inner.{noneMissing, ownIf, flagBelow}
+use Rattle.reason.proofs.Laws.Counts.{flag-below-is}
+use Rattle.reason.proofs.Laws.Own.{ownIf-outside, ownIf-self, ownIf-step}
 
 abbrev pub bit : Bool → ℕ
 bit b = cond b 1 0
@@ -33,12 +33,12 @@ pub record Flagging (p : List ℕ) (f : ℕ → Bool) (v : ℕ) (fl : List ℕ) 
   pub nodes : u ≤ length p
   pub long : length fl ≡ length p
   pub inside : u ≤ suc (lastUnder p v)
-  pub done : (x : ℕ) → x < u → getD fl x 0 ≡ bit (ownBy p f v x)
+  pub done : (x : ℕ) → x < u → getD fl x 0 ≡ bit (ownIf p f v x)
   pub rest : (x : ℕ) → u ≤ x → x < length p → getD fl x 0 ≡ 0
 
 module _ (p : List ℕ) (f : ℕ → Bool) (v : ℕ) (o : Preorder p (length p)) (l : v < length p) where
   abbrev flag : ℕ → ℕ
-  flag x = bit (ownBy p f v x)
+  flag x = bit (ownIf p f v x)
 
   down : Down p (length p)
   down = preorder-down p (length p) o
@@ -49,7 +49,7 @@ module _ (p : List ℕ) (f : ℕ → Bool) (v : ℕ) (o : Preorder p (length p))
     nodes = omega arith;
     long = length-set fl v 1 ∙ long;
     inside = omega (arith, span-start p o v l);
-    done = filled-more flag fl v 1 (λ x h. zero-at x (omega arith) ∙ sym (outside x h)) (omega (arith, long)) (sym (ap bit (ownBy-self p f v o l)));
+    done = filled-more flag fl v 1 (λ x h. zero-at x (omega arith) ∙ sym (outside x h)) (omega (arith, long)) (sym (ap bit (ownIf-self p f v o l)));
     rest = λ x a b. getD-set-other fl v x 1 0 (λ (q : x ≡ v). omega arith) ∙ zero-at x b;
   }
     where
@@ -60,7 +60,7 @@ module _ (p : List ℕ) (f : ℕ → Bool) (v : ℕ) (o : Preorder p (length p))
       zero-at x h = ap (λ (t : List ℕ). getD t x 0) z ∙ getD-replicate (length p) x 0 0 h
 
       outside : (x : ℕ) → x < v → flag x ≡ 0
-      outside x h = ap bit (ownBy-outside p f v x (under-not p (length p) down v x (omega arith) h))
+      outside x h = ap bit (ownIf-outside p f v x (under-not p (length p) down v x (omega arith) h))
 
   -- A node whose parent stands before v is not under v.
   not-under : (u : ℕ) → v < u → u < length p → parent p u < v → under p v u ≡ true → ⊥
@@ -74,9 +74,9 @@ module _ (p : List ℕ) (f : ℕ → Bool) (v : ℕ) (o : Preorder p (length p))
   up-under (suc u) a h b q = under-above p (length p) down v u h (span-under p o v l (parent p (suc u)) q (omega (arith, down u h)))
 
   -- Its flag, by its parent's.
-  flag-step : (u : ℕ) → v < u → u < length p → under p v u ≡ true → flag u ≡ bit (ownBy p f v (parent p u) && not (f u))
+  flag-step : (u : ℕ) → v < u → u < length p → under p v u ≡ true → flag u ≡ bit (ownIf p f v (parent p u) && not (f u))
   flag-step zero a h e = absurd (not-suc-le-zero a)
-  flag-step (suc u) a h e = ap bit (ownBy-step p f v o l u h (properly-of p v (suc u) e (λ q. omega arith)))
+  flag-step (suc u) a h e = ap bit (ownIf-step p f v o l u h (properly-of p v (suc u) e (λ q. omega arith)))
 
   parent-before : (u : ℕ) → v < u → u < length p → parent p u < u
   parent-before zero a h = absurd (not-suc-le-zero a)
@@ -104,10 +104,10 @@ module _ (p : List ℕ) (f : ℕ → Bool) (v : ℕ) (o : Preorder p (length p))
         some-bit true = refl
         some-bit false = refl
 
-        by-parent : bit (not (eqb (getD fl (parent p u) 0) 0) && not (f u)) ≡ bit (ownBy p f v (parent p u) && not (f u))
+        by-parent : bit (not (eqb (getD fl (parent p u) 0) 0) && not (f u)) ≡ bit (ownIf p f v (parent p u) && not (f u))
         by-parent =
             ap (λ (b : Bool). bit (b && not (f u)))
-            (ap (λ (z : ℕ). not (eqb z 0)) (s .done (parent p u) (parent-before u (s .after) h)) ∙ some-bit (ownBy p f v (parent p u)))
+            (ap (λ (z : ℕ). not (eqb z 0)) (s .done (parent p u) (parent-before u (s .after) h)) ∙ some-bit (ownIf p f v (parent p u)))
 
     -- The loop ends behind the last node under v.
     pub flagging-out : u < length p → parent p u < v → u ≡ suc (lastUnder p v)
@@ -125,12 +125,12 @@ module _ (p : List ℕ) (f : ℕ → Bool) (v : ℕ) (o : Preorder p (length p))
         each : (x : ℕ) → x < length p → getD fl x 0 ≡ flag x
         each x h =
             ⊎-elim (λ q. s .done x q)
-            (λ q. s .rest x q h ∙ sym (ap bit (ownBy-outside p f v x (past-span p o v l x h (omega arith)))))
+            (λ q. s .rest x q h ∙ sym (ap bit (ownIf-outside p f v x (past-span p o v l x h (omega arith)))))
             (less-or x u)
 
 -- A turn by the flag that the code works out from the counts, where the parent is `up`.
-pub flagging-turn : (p cs : List ℕ) (k v : ℕ) → Preorder p (length p) → v < length p → (fl : List ℕ) (u up x : ℕ) → Flagging p (fullBy cs (length p) k) v fl u →
-    u < length p → up ≡ parent p u → v ≤ up → x ≡ flagged cs (length p) k u (getD fl up 0) → Flagging p (fullBy cs (length p) k) v (set fl u x) (u + 1)
+pub flagging-turn : (p cs : List ℕ) (k v : ℕ) → Preorder p (length p) → v < length p → (fl : List ℕ) (u up x : ℕ) → Flagging p (noneMissing cs (length p) k) v fl u →
+    u < length p → up ≡ parent p u → v ≤ up → x ≡ flagBelow cs (length p) k u (getD fl up 0) → Flagging p (noneMissing cs (length p) k) v (set fl u x) (u + 1)
 flagging-turn p cs k v o l fl u up x s h e q ex =
-    flagging-step p (fullBy cs (length p) k) v o l fl u s x h (omega arith)
-    (ex ∙ ap (λ (z : ℕ). flagged cs (length p) k u (getD fl z 0)) e ∙ flagged-is cs (length p) k u (getD fl (parent p u) 0))
+    flagging-step p (noneMissing cs (length p) k) v o l fl u s x h (omega arith)
+    (ex ∙ ap (λ (z : ℕ). flagBelow cs (length p) k u (getD fl z 0)) e ∙ flag-below-is cs (length p) k u (getD fl (parent p u) 0))

@@ -1,4 +1,4 @@
 -- The laws of reasons, by theme.
 pub mod Counts
 pub mod Own
-pub mod Numbered
+pub mod InNumbers

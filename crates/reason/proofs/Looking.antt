@@ -5,7 +5,7 @@
 --   lowest-by, unowned-by   the first flagged entry of a word's list; the first word that has none
 --   looked                  where none is missing
 -- Letters: p parents, occ occurrences, cs counts, fl the row of zeros, fl₁ the flags; v u nodes, x occurrence, j word.
-use Prim.Native.Nat.{ℕ, suc, _+_, _-_, _*_, _≤_, _<_}
+use Prim.Native.Nat.{ℕ, _+_, _-_, _≤_, _<_}
 use mathlib.Core.Path.{_≡_, refl, sym, ap, ap₂, _∙_, subst}
 use mathlib.Core.Logic.{⊎-elim}
 use mathlib.Core.List.{List, []}
@@ -16,29 +16,29 @@ use borrow.Rule.Slice.PartMut.{putMid, midOf}
 use lib.Dec.{eqb, ltb, leb}
 use lib.ListN.{length, getD, drop, replicate, length-replicate, length-drop, getD-replicate}
 use lib.Seq.{ext-getD, length-take-le}
-use Rattle.seq.specs.Below.{everyBelow, firstFail, tabulate}
-use Rattle.seq.specs.Lists.{someOf, tally, firstOf, EachBelow}
+use Rattle.seq.specs.Below.{everyBelow, tabulate}
+use Rattle.seq.specs.Lists.{someOf, firstOf, EachBelow}
 use Rattle.seq.specs.Memory.{over}
 use Rattle.seq.proofs.Laws.Bools.{bool-cases, cond-true, cond-false, and-false-left}
-use Rattle.seq.proofs.Laws.Below.{first-le, first-ext, first-below, every-first}
+use Rattle.seq.proofs.Laws.Below.{first-ext, first-below, every-first}
 use Rattle.seq.proofs.Laws.Numbers.{less-or}
 use Rattle.seq.proofs.Laws.Gather.{length-tabulate, getD-tabulate, tabulate-ext}
 use Rattle.seq.proofs.Laws.Lists.{someOf-tally, firstOf-none, firstOf-ext, firstOf-any}
 use Rattle.seq.proofs.Laws.Members.{member-below, firstOf-member}
 use Rattle.seq.proofs.Laws.Memory.{over-nil}
 use Rattle.seq.proofs.Laws.Parts.{put-long, put-before, put-inside, put-after}
-use Rattle.tree.specs.Tree.{under, lastUnder}
+use Rattle.tree.specs.Tree.{under}
 use Rattle.tree.proofs.Laws.Under.{under-not, preorder-down}
 use Rattle.tree.proofs.Laws.Spans.{last-below, span-start, past-span}
 use Rattle.index.specs.Index.{wordList, countUnder}
 use Rattle.index.specs.Plain.{WordKept}
 use Rattle.answers.specs.Answers.{full, own, ownCount, elca}
 use Rattle.reason.specs.declared.Reason.the-variants.{NotFull}
-use Rattle.reason.specs.declared.finding.Found.{Found}
-use Rattle.reason.specs.Reasons.{Told, NOT-FULL, NOT-LISTED, LISTED, naming, told, missing, unowned, reasonOf, lowestOwn, lowestOwns}
-use Rattle.reason.specs.Inner.{missingBy, fullBy, ownBy, RowsPre, FlagPre, OwnFlagged, lowestBy, lowestIn, unownedBy, stops, FindPre, Finds, LookPre, Looked}
+use Rattle.reason.specs.declared.finding.Why.{Why}
+use Rattle.reason.specs.Reasons.{NOT-FULL, NOT-LISTED, LISTED, naming, missing, unowned, reasonOf, lowestOwn, lowestOwns}
+use Rattle.reason.specs.Inner.{missingBy, noneMissing, ownIf, RowsPre, FlagPre, OwnFlagged, lowestBy, lowestIn, unownedBy, stops, FindPre, Finds, LookPre, Looked}
 use Rattle.reason.proofs.Flagging.{bit}
-use Rattle.reason.proofs.Laws.Own.{ownBy-outside, ownBy-ext}
+use Rattle.reason.proofs.Laws.Own.{ownIf-outside, ownIf-ext}
 
 -- ---- by the definitions alone
 module _ (p : List ℕ) (k : ℕ) (W : ℕ → List ℕ) (v : ℕ) where
@@ -97,7 +97,7 @@ module _ (p ends occ cs : List ℕ) (v : ℕ) (fl : List ℕ) (pre : LookPre p e
   unfolding missingBy missing countUnder
   missing-by u l = first-ext k _ _ (λ j h. ap (ltb 0) (pre .counts j u h l) ∙ sym (someOf-tally (under p u) (W j)))
 
-  full-by : (u : ℕ) → u < n → fullBy cs n k u ≡ full p k W u
+  full-by : (u : ℕ) → u < n → noneMissing cs n k u ≡ full p k W u
   full-by u l = ap (λ (z : ℕ). not (ltb z k)) (missing-by u l) ∙ sym (full-missing p k W u)
 
   pub rows-pre : RowsPre cs n k v
@@ -126,10 +126,10 @@ module _ (p ends occ cs : List ℕ) (v : ℕ) (fl : List ℕ) (pre : LookPre p e
     mine = own p k W v
 
     own-by : (x : ℕ) → x < n → getD fl₁ x 0 ≡ bit (mine x)
-    unfolding own ownBy
+    unfolding own ownIf
     own-by x l =
-        ap (λ (t : List ℕ). getD t x 0) (g .flags) ∙ getD-tabulate n (λ x. bit (ownBy p (fullBy cs n k) v x)) x 0 l
-        ∙ ap bit (ownBy-ext p (fullBy cs n k) (full p k W) full-by v x)
+        ap (λ (t : List ℕ). getD t x 0) (g .flags) ∙ getD-tabulate n (λ x. bit (ownIf p (noneMissing cs n k) v x)) x 0 l
+        ∙ ap bit (ownIf-ext p (noneMissing cs n k) (full p k W) full-by v x)
 
     pub flags-long : length fl₁ ≡ n
     flags-long = ap length (g .flags) ∙ length-tabulate n _
@@ -212,7 +212,7 @@ module _ (p ends occ cs : List ℕ) (v : ℕ) (fl : List ℕ) (pre : LookPre p e
 
       zero-out : (x : ℕ) → x < n → under p v x ≡ false → getD fl₁ x 0 ≡ 0
       zero-out x l e =
-          ap (λ (t : List ℕ). getD t x 0) (g .flags) ∙ getD-tabulate n (λ x. bit (ownBy p (fullBy cs n k) v x)) x 0 l ∙ ap bit (ownBy-outside p (fullBy cs n k) v x e)
+          ap (λ (t : List ℕ). getD t x 0) (g .flags) ∙ getD-tabulate n (λ x. bit (ownIf p (noneMissing cs n k) v x)) x 0 l ∙ ap bit (ownIf-outside p (noneMissing cs n k) v x e)
 
       cleared-at : (x : ℕ) → x < n → getD (putMid v wide fl₁ z) x 0 ≡ 0
       cleared-at x l =
@@ -235,7 +235,7 @@ module _ (p ends occ cs : List ℕ) (v : ℕ) (fl : List ℕ) (pre : LookPre p e
           (λ x h. let l : x < n = omega (arith, put-long v wide fl₁ z fits z-long, flags-long) in
           cleared-at x l ∙ sym (ap (λ (t : List ℕ). getD t x 0) (pre .zeros) ∙ getD-replicate n x 0 0 l))
 
-      pub looked : (r : Found) → Finds ends occ fl₁ r → Looked p ends occ v fl r (putMid v wide fl₁ z)
+      pub looked : (r : Why) → Finds ends occ fl₁ r → Looked p ends occ v fl r (putMid v wide fl₁ z)
       looked r h = record {
         reason = h .reason ∙ ap₂ (λ (b : Bool) (j : ℕ). cond b (naming NOT-LISTED j) (naming LISTED 0)) stops-is unowned-by ∙ sym (reason-full p k W v f);
         occurrences = h .occurrences ∙ found-rows;

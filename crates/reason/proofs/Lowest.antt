@@ -12,7 +12,7 @@ use native.Mathlib.Omega.{arith}
 use lib.Dec.{eqb, ltb}
 use borrow.Author.Tests.{lt-ltb, le-ltb, eq-eqb, ne-eqb}
 use lib.ListN.{length, getD, set, take, drop, replicate, List·getD-eq-default}
-use Rattle.seq.specs.Below.{firstFail, tabulate}
+use Rattle.seq.specs.Below.{tabulate}
 use Rattle.seq.specs.Lists.{EachBelow}
 use Rattle.seq.specs.Memory.{over}
 use Rattle.seq.proofs.Laws.Bools.{cond-true, cond-false}

@@ -9,15 +9,15 @@ use Prim.Native.Nat.{ℕ, _≤_, _<_}
 use mathlib.Core.Path.{_≡_, refl, sym, ap, _∙_, subst}
 use mathlib.Core.Logic.{_↔_, ⊎-elim}
 use mathlib.Core.List.{List}
-use mathlib.Core.Bool.{Bool, true, false, not, cond, _&&_}
+use mathlib.Core.Bool.{Bool, true, false, not, _&&_}
 use native.Mathlib.Nat.{le-antisymm}
 use native.Mathlib.Omega.{arith}
 use lib.Dec.{eqb, ltb, leb}
-use borrow.Author.Tests.{ltb-true, lt-ltb, le-ltb, leb-true, leb-false, le-leb, lt-leb, eq-eqb, eqb-true, not-true}
+use borrow.Author.Tests.{ltb-true, lt-ltb, leb-true, leb-false, le-leb, lt-leb, eq-eqb, eqb-true}
 use lib.ListN.{length, getD, replicate, length-replicate, getD-replicate, List·getD-eq-default}
 use lib.Seq.{ext-getD}
 use Rattle.seq.specs.Below.{someBelow, tabulate}
-use Rattle.seq.specs.Lists.{someOf, tally, EachBelow}
+use Rattle.seq.specs.Lists.{someOf, EachBelow}
 use Rattle.seq.specs.Memory.{over}
 use Rattle.seq.specs.Plain.{Among}
 use Rattle.seq.proofs.Laws.Bools.{bool-cases, bool-false, bool-not-both, cond-true, cond-false, and-left, and-right, and-both}
@@ -28,17 +28,17 @@ use Rattle.seq.proofs.Laws.Lists.{Entry, someOf-at, someOf-of, someOf-tally, fi
 use Rattle.seq.proofs.Laws.Members.{Rising, member-of, member-below, firstOf-member, firstOf-lowest}
 use Rattle.seq.proofs.Laws.Memory.{over-nil, length-over, over-front, over-rest}
 use Rattle.tree.specs.Tree.{under, properly}
-use Rattle.tree.specs.Plain.{Under, Down, Preorder}
+use Rattle.tree.specs.Plain.{Down, Preorder}
 use Rattle.tree.proofs.Laws.Under.{under-plain, under-of-plain, preorder-down}
-use Rattle.index.specs.Index.{Index, nodes, wanted}
+use Rattle.index.specs.Index.{Index, wanted}
 use Rattle.index.specs.Plain.{Right}
 use Rattle.answers.specs.Answers.{full, own, ownCount, elca}
-use Rattle.answers.specs.Plain.{Occurs, Full, Own, Elca}
+use Rattle.answers.specs.Plain.{Occurs, Elca}
 use Rattle.answers.proofs.Laws.Meaning.{ancestor-plain, occurs-plain, full-plain, own-plain, elca-plain}
 use Rattle.answers.proofs.Laws.Plain.{elca-full, elca-own}
 use Rattle.answers.proofs.Laws.Counts.{lists-below}
-use Rattle.reason.specs.Reasons.{Told, NOT-FULL, NOT-LISTED, LISTED, naming, missing, unowned, reasonOf, lowestOwn, lowestOwns}
-use Rattle.reason.specs.Plain.{OnList, Missing, Covers, Unowned, LowestOwn, Lowest, Holds, notFull, notListed, listed, OneReason}
+use Rattle.reason.specs.Reasons.{Naming, NOT-FULL, NOT-LISTED, LISTED, naming, missing, unowned, reasonOf, lowestOwn, lowestOwns}
+use Rattle.reason.specs.Plain.{Missing, Covers, Unowned, LowestOwn, Lowest, TrueOf, trueNotFull, trueNotListed, trueListed, OneReason}
 use Rattle.reason.proofs.Looking.{full-missing, reason-missing, elca-unowned, reason-full}
 
 -- ---- entries of a list
@@ -56,8 +56,8 @@ module _ (p : List ℕ) (k : ℕ) (W : ℕ → List ℕ) (v : ℕ) where
   unfolding reasonOf
   other e q =
       ⊎-elim
-      (λ f. two-three (sym (ap (λ (t : Told). t .number) (cond-true (full p k W v) f _ _ ∙ cond-false (elca p k W v) e _ _)) ∙ q))
-      (λ f. one-three (sym (ap (λ (t : Told). t .number) (cond-false (full p k W v) f _ _)) ∙ q))
+      (λ f. two-three (sym (ap (λ (t : Naming). t .number) (cond-true (full p k W v) f _ _ ∙ cond-false (elca p k W v) e _ _)) ∙ q))
+      (λ f. one-three (sym (ap (λ (t : Naming). t .number) (cond-false (full p k W v) f _ _)) ∙ q))
       (bool-cases (full p k W v))
     where
       two-three : NOT-LISTED ≡ LISTED → ⊥
@@ -73,7 +73,7 @@ module _ (p : List ℕ) (k : ℕ) (W : ℕ → List ℕ) (v : ℕ) where
   unfolding reasonOf lowestOwns
   unlisted-zeros ne =
       ⊎-elim
-      (λ e. absurd (ne (ap (λ (t : Told). t .number) (cond-true (full p k W v) (elca-full p k W v e) _ _ ∙ cond-true (elca p k W v) e _ _))))
+      (λ e. absurd (ne (ap (λ (t : Naming). t .number) (cond-true (full p k W v) (elca-full p k W v e) _ _ ∙ cond-true (elca p k W v) e _ _))))
       (λ e. ap (λ (t : List ℕ). over t (replicate 8 0)) (cond-false (elca p k W v) e _ _) ∙ over-nil (replicate 8 0))
       (bool-cases (elca p k W v))
 
@@ -190,26 +190,26 @@ module _ (p : List ℕ) (o : Preorder p (length p)) (k : ℕ) (W : ℕ → List 
   not-listed-is f e = cond-true (full p k W v) f _ _ ∙ cond-false (elca p k W v) e _ _
 
   -- ---- which of them
-  pub reason-holds : Holds p k W v (reasonOf p k W v)
+  pub reason-holds : TrueOf p k W v (reasonOf p k W v)
   reason-holds =
       ⊎-elim
       (λ f. ⊎-elim
-      (λ e. subst (Holds p k W v) (sym (listed-is e)) (listed (elca-plain p d k W b v .0 e)))
-      (λ e. subst (Holds p k W v) (sym (not-listed-is f e)) (notListed (unowned-holds f e)))
+      (λ e. subst (TrueOf p k W v) (sym (listed-is e)) (trueListed (elca-plain p d k W b v .0 e)))
+      (λ e. subst (TrueOf p k W v) (sym (not-listed-is f e)) (trueNotListed (unowned-holds f e)))
       (bool-cases (elca p k W v)))
-      (λ f. subst (Holds p k W v) (sym (reason-missing p k W v f)) (notFull (missing-holds f)))
+      (λ f. subst (TrueOf p k W v) (sym (reason-missing p k W v f)) (trueNotFull (missing-holds f)))
       (bool-cases (full p k W v))
 
-  pub reason-only : (t : Told) → Holds p k W v t → t ≡ reasonOf p k W v
-  reason-only t (notFull {j} m) = missing-only j m
-  reason-only t (notListed {j} u) = unowned-only j u
-  reason-only t (listed e) = sym (listed-is (elca-plain p d k W b v .1 e))
+  pub reason-only : (t : Naming) → TrueOf p k W v t → t ≡ reasonOf p k W v
+  reason-only t (trueNotFull {j} m) = missing-only j m
+  reason-only t (trueNotListed {j} u) = unowned-only j u
+  reason-only t (trueListed e) = sym (listed-is (elca-plain p d k W b v .1 e))
 
   -- The reason is `listed` exactly where v is an ELCA.
   pub reason-listed : (reasonOf p k W v .number ≡ LISTED) ↔ Elca p k W v
   reason-listed = (
     λ q. elca-plain p d k W b v .0 (listed-elca p k W v q),
-    λ h. ap (λ (t : Told). t .number) (listed-is (elca-plain p d k W b v .1 h)),
+    λ h. ap (λ (t : Naming). t .number) (listed-is (elca-plain p d k W b v .1 h)),
   )
 
   -- ---- the occurrences of a listed node

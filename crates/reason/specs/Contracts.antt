@@ -3,8 +3,8 @@
 --   reasonReply I v w   == the reply: that of the index check; then NODE where v is n or more, else accepted
 --   toldAfter t I v w   == what is told: the reason where the call is accepted, t where it is refused
 --   lowestAfter I v w   == the 8 occurrences: those of the reason where the call is accepted, zeros where it is refused
---   numbered e          == an explanation in numbers
---   Explained, ExplainedInNumbers  == the promises of `explain`, and of `number` after it
+--   numbersOf e         == an explanation in numbers
+--   Explained, ExplainedInNumbers   == the promises of `explain`, and of `in_numbers` after it
 -- Letters: I index; v node; w work as lent, w′ at the end; e explanation, t what is told. Work after the call is `workAfter` of the index check. Assumes nothing.
 use Prim.Native.Nat.{ℕ}
 use mathlib.Core.Path.{_≡_}
@@ -16,9 +16,9 @@ use Rattle.index.specs.declared.Reply.{Reply}
 use Rattle.index.specs.Index.{Index, nodes, wanted}
 use Rattle.index.specs.Replies.{accepted, refused, totalled, checked, workAfter}
 use Rattle.reason.specs.declared.Explanation.{Explanation}
-use Rattle.reason.specs.declared.Numbered.{Numbered}
+use Rattle.reason.specs.declared.Numbers.{Numbers}
 use Rattle.reason.specs.declared.Reason.the-variants.{NotFull}
-use Rattle.reason.specs.Reasons.{Told, naming, told, reasonOf, lowestOwns}
+use Rattle.reason.specs.Reasons.{Naming, naming, told, reasonOf, lowestOwns}
 
 abbrev pub NODE : ℕ
 NODE = 10
@@ -30,7 +30,7 @@ reasonReply I v w = checked 0 I (length w) (cond (ltb v (nodes I)) (totalled acc
 unfoldable pub explains : Index → ℕ → List ℕ → Bool
 explains I v w = eqb (reasonReply I v w .refusal) accepted
 
-unfoldable pub toldAfter : Told → Index → ℕ → List ℕ → Told
+unfoldable pub toldAfter : Naming → Index → ℕ → List ℕ → Naming
 toldAfter t I v w = cond (explains I v w) (reasonOf (I .parents) (I .positive) (wanted I) v) t
 
 unfoldable pub lowestAfter : Index → ℕ → List ℕ → List ℕ
@@ -45,13 +45,13 @@ pub record Explained (I : Index) (v : ℕ) (w : List ℕ) (e : Explanation) (w�
   pub work : w′ ≡ workAfter 0 I w
 
 -- In numbers a refusal has 0, which is the number of no case.
-abbrev pub inNumbers : Reply → Told → List ℕ → Numbered
-inNumbers r t l = record { reply = r; reason = t .number; word = t .word; occurrences = l }
+abbrev pub withNumbers : Reply → Naming → List ℕ → Numbers
+withNumbers r t l = record { reply = r; reason = t .number; word = t .word; occurrences = l }
 
-unfoldable pub numbered : Explanation → Numbered
-numbered e = inNumbers (e .reply) (cond (eqb (e .reply .refusal) accepted) (told (e .reason)) (naming 0 0)) (e .occurrences)
+unfoldable pub numbersOf : Explanation → Numbers
+numbersOf e = withNumbers (e .reply) (cond (eqb (e .reply .refusal) accepted) (told (e .reason)) (naming 0 0)) (e .occurrences)
 
-pub record ExplainedInNumbers (I : Index) (v : ℕ) (w : List ℕ) (e : Numbered) (w′ : List ℕ) : Type 0 where
+pub record ExplainedInNumbers (I : Index) (v : ℕ) (w : List ℕ) (e : Numbers) (w′ : List ℕ) : Type 0 where
   pub reply : e .reply ≡ reasonReply I v w
   pub reason : naming (e .reason) (e .word) ≡ toldAfter (naming 0 0) I v w
   pub occurrences : e .occurrences ≡ lowestAfter I v w

@@ -1,8 +1,8 @@
 -- What the functions of this crate promise each other; no public contract cites it. While a reason is looked for, a row of work has a flag for each node.
 --   missingBy cs n k v    == the first of k rows of n with a count of 0 at v (k where there is none)
---   fullBy cs n k v       == there is none
---   ownBy p f v x         == x is under v and under no proper descendant of v that passes f
---   flagged cs n k u a    == the flag of u, where its parent's is a
+--   noneMissing cs n k v  == there is none: v is full by the counts
+--   ownIf p f v x         == x is under v and under no proper descendant of v that passes f
+--   flagBelow cs n k u a  == the flag of u, where its parent's is a
 --   lowestBy fl l         == the first entry of l that is flagged in fl (the length of fl where none is)
 --   unownedBy ends occ fl == the first word of whose list no entry is flagged (k where each has one)
 -- Letters: p parents, cs counts, occ occurrences, l list, fl flags; n nodes, k words; v node, u node below it, x occurrence, j word; f test. Assumes nothing.
@@ -22,15 +22,15 @@ use Rattle.index.specs.Plain.{WordKept}
 use Rattle.index.specs.declared.Reply.{Reply}
 use Rattle.reason.specs.declared.Reason.{Reason}
 use Rattle.reason.specs.declared.Explanation.{Explanation}
-use Rattle.reason.specs.declared.finding.Found.{Found}
+use Rattle.reason.specs.declared.finding.Why.{Why}
 use Rattle.reason.specs.Reasons.{NOT-LISTED, LISTED, naming, told, reasonOf, lowestOwns}
 
 -- ---- counts
 unfoldable pub missingBy : List ℕ → ℕ → ℕ → ℕ → ℕ
 missingBy cs n k v = firstFail k λ j. ltb 0 (getD cs (j * n + v) 0)
 
-abbrev pub fullBy : List ℕ → ℕ → ℕ → ℕ → Bool
-fullBy cs n k v = not (ltb (missingBy cs n k v) k)
+abbrev pub noneMissing : List ℕ → ℕ → ℕ → ℕ → Bool
+noneMissing cs n k v = not (ltb (missingBy cs n k v) k)
 
 -- What there is to read at a node: its number is below n, and there are k rows of n counts.
 pub record RowsPre (cs : List ℕ) (n k v : ℕ) : Type 0 where
@@ -38,11 +38,11 @@ pub record RowsPre (cs : List ℕ) (n k v : ℕ) : Type 0 where
   pub rows : k * n ≤ length cs
 
 -- ---- flags
-unfoldable pub ownBy : List ℕ → (ℕ → Bool) → ℕ → ℕ → Bool
-ownBy p f v x = under p v x && not (someBelow (length p) λ u. (properly p v u && f u) && under p u x)
+unfoldable pub ownIf : List ℕ → (ℕ → Bool) → ℕ → ℕ → Bool
+ownIf p f v x = under p v x && not (someBelow (length p) λ u. (properly p v u && f u) && under p u x)
 
-unfoldable pub flagged : List ℕ → ℕ → ℕ → ℕ → ℕ → ℕ
-flagged cs n k u a = cond (not (eqb a 0) && not (fullBy cs n k u)) 1 0
+unfoldable pub flagBelow : List ℕ → ℕ → ℕ → ℕ → ℕ → ℕ
+flagBelow cs n k u a = cond (not (eqb a 0) && not (noneMissing cs n k u)) 1 0
 
 pub record FlagPre (p cs : List ℕ) (k v : ℕ) (fl : List ℕ) : Type 0 where
   pub preorder : Preorder p (length p)
@@ -53,7 +53,7 @@ pub record FlagPre (p cs : List ℕ) (k v : ℕ) (fl : List ℕ) : Type 0 where
 -- A flag at each node at which an occurrence is v's own; r is the first node behind those under v.
 pub record OwnFlagged (p cs : List ℕ) (k v r : ℕ) (fl : List ℕ) : Type 0 where
   pub end : r ≡ suc (lastUnder p v)
-  pub flags : fl ≡ tabulate (length p) (λ x. cond (ownBy p (fullBy cs (length p) k) v x) 1 0)
+  pub flags : fl ≡ tabulate (length p) (λ x. cond (ownIf p (noneMissing cs (length p) k) v x) 1 0)
 
 -- ---- the words' lists
 unfoldable pub lowestBy : List ℕ → List ℕ → ℕ
@@ -77,7 +77,7 @@ pub record FindPre (ends occ fl : List ℕ) : Type 0 where
 abbrev pub stops : List ℕ → List ℕ → List ℕ → Bool
 stops ends occ fl = ltb (unownedBy ends occ fl) (length ends)
 
-pub record Finds (ends occ fl : List ℕ) (r : Found) : Type 0 where
+pub record Finds (ends occ fl : List ℕ) (r : Why) : Type 0 where
   pub reason : told (r .reason) ≡ cond (stops ends occ fl) (naming NOT-LISTED (unownedBy ends occ fl)) (naming LISTED 0)
   pub occurrences : r .occurrences ≡ over (cond (stops ends occ fl) [] (tabulate (length ends) (lowestIn ends occ fl))) (replicate 8 0)
 
@@ -92,7 +92,7 @@ pub record LookPre (p ends occ cs : List ℕ) (v : ℕ) (fl : List ℕ) : Type 0
   pub counts : (j u : ℕ) → j < length ends → u < length p → getD cs (j * length p + u) 0 ≡ countUnder p (wordList ends occ j) u
   pub zeros : fl ≡ replicate (length p) 0
 
-pub record Looked (p ends occ : List ℕ) (v : ℕ) (fl : List ℕ) (r : Found) (fl′ : List ℕ) : Type 0 where
+pub record Looked (p ends occ : List ℕ) (v : ℕ) (fl : List ℕ) (r : Why) (fl′ : List ℕ) : Type 0 where
   pub reason : told (r .reason) ≡ reasonOf p (length ends) (wordList ends occ) v
   pub occurrences : r .occurrences ≡ lowestOwns p (length ends) (wordList ends occ) v
   pub row : fl′ ≡ fl

@@ -4,8 +4,8 @@
 --                             of v; and no word before it has the own count 0
 --   LowestOwn p k W v j x  == x is an occurrence of word j and v's own, and no lower one is
 --   Lowest p k W v l       == l has 8 numbers: the lowest own occurrence of each word, then zeros
---   Holds p k W v t        == what t says of v is so: `Missing`, `Unowned`, or that v is an ELCA
---   OneReason p k W v      == one reason holds of v, and no other
+--   TrueOf p k W v t       == what t says of v is so: `Missing`, `Unowned`, or that v is an ELCA
+--   OneReason p k W v t    == t is true of v, and nothing else is
 -- Letters: p parents; k words, W their lists; v node, u node below it, x y occurrences, j i words; t what is told. Assumes nothing.
 use Prim.Native.Nat.{ℕ, _≤_, _<_}
 use mathlib.Core.Path.{_≡_}
@@ -15,7 +15,7 @@ use Rattle.seq.specs.Plain.{Among}
 use Rattle.tree.specs.Plain.{Under}
 use Rattle.answers.specs.Answers.{ownCount}
 use Rattle.answers.specs.Plain.{Ancestor, Occurs, Full, Own, Elca}
-use Rattle.reason.specs.Reasons.{NOT-FULL, NOT-LISTED, LISTED, Told}
+use Rattle.reason.specs.Reasons.{NOT-FULL, NOT-LISTED, LISTED, Naming, naming}
 
 -- x is on word j's list.
 abbrev pub OnList : (ℕ → List ℕ) → ℕ → ℕ → Type 0
@@ -50,11 +50,11 @@ pub record Lowest (p : List ℕ) (k : ℕ) (W : ℕ → List ℕ) (v : ℕ) (l :
   pub each : (j : ℕ) → j < k → LowestOwn p k W v j (getD l j 0)
   pub rest : (j : ℕ) → k ≤ j → getD l j 0 ≡ 0
 
-pub data Holds (p : List ℕ) (k : ℕ) (W : ℕ → List ℕ) (v : ℕ) : Told → Type 0 where
-  notFull : {j : ℕ} → Missing p k W v j → Holds p k W v (record { number = NOT-FULL; word = j })
-  notListed : {j : ℕ} → Unowned p k W v j → Holds p k W v (record { number = NOT-LISTED; word = j })
-  listed : Elca p k W v → Holds p k W v (record { number = LISTED; word = 0 })
+pub data TrueOf (p : List ℕ) (k : ℕ) (W : ℕ → List ℕ) (v : ℕ) : Naming → Type 0 where
+  trueNotFull : {j : ℕ} → Missing p k W v j → TrueOf p k W v (naming NOT-FULL j)
+  trueNotListed : {j : ℕ} → Unowned p k W v j → TrueOf p k W v (naming NOT-LISTED j)
+  trueListed : Elca p k W v → TrueOf p k W v (naming LISTED 0)
 
-pub record OneReason (p : List ℕ) (k : ℕ) (W : ℕ → List ℕ) (v : ℕ) (t : Told) : Type 0 where
-  pub holds : Holds p k W v t
-  pub only : (s : Told) → Holds p k W v s → s ≡ t
+pub record OneReason (p : List ℕ) (k : ℕ) (W : ℕ → List ℕ) (v : ℕ) (t : Naming) : Type 0 where
+  pub holds : TrueOf p k W v t
+  pub only : (s : Naming) → TrueOf p k W v s → s ≡ t

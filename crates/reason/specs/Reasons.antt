@@ -1,6 +1,6 @@
 -- Why a node is listed under ELCA, or is not (02, Q-4), in numbers.
 --   NOT-FULL, NOT-LISTED, LISTED  == the numbers of the three cases
---   Told                 == what a reason says: its case's number, and the word that it names, from 0 (0 where it names none)
+--   Naming               == what a reason says: its case's number, and the word that it names, from 0 (0 where it names none)
 --   told r               == what the code's reason r says: the number and the word of each of its cases
 --   missing p k W v      == the first word with no occurrence under v (k where each word has one)
 --   unowned p k W v      == the first word whose own count at v is 0 (k where none's is)
@@ -31,15 +31,15 @@ NOT-LISTED = 2
 abbrev pub LISTED : ℕ
 LISTED = 3
 
-pub record Told : Type 0 where
+pub record Naming : Type 0 where
   pub number : ℕ
   pub word : ℕ
 
 -- A case, with the word that it names.
-abbrev pub naming : ℕ → ℕ → Told
+abbrev pub naming : ℕ → ℕ → Naming
 naming c j = record { number = c; word = j }
 
-abbrev pub told : Reason → Told
+abbrev pub told : Reason → Naming
 told (NotFull j) = naming NOT-FULL j
 told (NotListed j) = naming NOT-LISTED j
 told Listed = naming LISTED 0
@@ -51,7 +51,7 @@ missing p k W v = firstFail k λ j. someOf (under p v) (W j)
 unfoldable pub unowned : List ℕ → ℕ → (ℕ → List ℕ) → ℕ → ℕ
 unowned p k W v = firstFail k λ j. leb 1 (ownCount p k W v j)
 
-unfoldable pub reasonOf : List ℕ → ℕ → (ℕ → List ℕ) → ℕ → Told
+unfoldable pub reasonOf : List ℕ → ℕ → (ℕ → List ℕ) → ℕ → Naming
 reasonOf p k W v =
     cond (full p k W v)
     (cond (elca p k W v) (naming LISTED 0) (naming NOT-LISTED (unowned p k W v)))

@@ -1,11 +1,10 @@
 // The lowest own occurrence of each word, by the flags of the nodes.
 ghost use mathlib.Core.Path.{_≡_};
-ghost use lib.ListN.{length};
 ghost use Rattle.reason.specs.Inner.{lowestBy, FlaggedPre, FindPre, Finds};
 use crate::Reason;
 
 // What is found on a checked index: the reason, and where it is `Listed` the lowest own occurrence of each word, else zeros.
-pub(crate) struct Found {
+pub(crate) struct Why {
     pub reason: Reason,
     pub occurrences: [u32; 8],
 }
@@ -27,7 +26,7 @@ fn first_flagged(list: &[u32], row: &[u32]) -> usize
 }
 
 // The first flagged entry of each word's list, or the first word whose list has none.
-pub(crate) fn find(ends: &[u32], occurrences: &[u32], row: &[u32]) -> Found
+pub(crate) fn find(ends: &[u32], occurrences: &[u32], row: &[u32]) -> Why
     requires { ⌜ FindPre (now ends) (now occurrences) (now row) ⌝ }
     ensures { λ r. ⌜ Finds (now (ends .entry)) (now (occurrences .entry)) (now (row .entry)) r ⌝ }
 {
@@ -39,7 +38,7 @@ pub(crate) fn find(ends: &[u32], occurrences: &[u32], row: &[u32]) -> Found
         let to = seq::widen(ends[j]);
         let x = first_flagged(&occurrences[from..to], row);
         if n <= x {
-            return Found {
+            return Why {
                 reason: Reason::NotListed(j as u32),
                 occurrences: [0; 8],
             };
@@ -48,7 +47,7 @@ pub(crate) fn find(ends: &[u32], occurrences: &[u32], row: &[u32]) -> Found
         from = to;
         j += 1;
     }
-    Found {
+    Why {
         reason: Reason::Listed,
         occurrences: lowest,
     }

@@ -1,6 +1,6 @@
 // Which occurrences are a full node's own: a flag for each node under it.
 ghost use mathlib.Core.Path.{_≡_};
-ghost use Rattle.reason.specs.Inner.{missingBy, flagged, RowsPre, FlagPre, OwnFlagged};
+ghost use Rattle.reason.specs.Inner.{missingBy, flagBelow, RowsPre, FlagPre, OwnFlagged};
 
 // The first word whose count at v is 0; k where there is none.
 pub(crate) fn first_missing(counts: &[u32], n: usize, k: usize, v: usize) -> usize
@@ -22,7 +22,7 @@ pub(crate) fn first_missing(counts: &[u32], n: usize, k: usize, v: usize) -> usi
 // The flag of a node u below v, where its parent's is `above`: what is at u is v's own if what is at its parent is, and u is not full.
 fn flag_of(counts: &[u32], n: usize, k: usize, u: usize, above: u32) -> u32
     requires { ⌜ RowsPre (now counts) n k u ⌝ }
-    ensures { λ r. ⌜ r ≡ flagged (now (counts .entry)) n k u above ⌝ }
+    ensures { λ r. ⌜ r ≡ flagBelow (now (counts .entry)) n k u above ⌝ }
 {
     if above == 0 {
         return 0;

@@ -1,14 +1,13 @@
 // Why a node is listed under ELCA, or is not (02, Q-4).
-// Two entry points: `explain`, and `number`, which puts an explanation into the numbers that C takes.
+// Two entry points: `explain`, and `in_numbers`, which puts an explanation into the numbers that C takes.
 mod finding;
 mod flags;
 
 ghost use mathlib.Core.Path.{_≡_};
-ghost use lib.ListN.{length};
 ghost use Rattle.index.specs.Contracts.{lent};
-ghost use Rattle.reason.specs.Contracts.{Explained, numbered};
+ghost use Rattle.reason.specs.Contracts.{Explained, numbersOf};
 ghost use Rattle.reason.specs.Inner.{LookPre, Looked, withReply};
-use finding::Found;
+use finding::Why;
 use index::Reply;
 
 // The number of the refusal that this call adds to those of the index check.
@@ -40,7 +39,7 @@ pub struct Explanation {
 
 // The same in numbers.
 #[repr(C)]
-pub struct Numbered {
+pub struct Numbers {
     pub reply: Reply,
     pub reason: u32,
     pub word: u32,
@@ -66,14 +65,14 @@ fn look(
     counts: &[u32],
     v: usize,
     row: &mut [u32],
-) -> Found
+) -> Why
     requires { ⌜ LookPre (now parents) (now ends) (now occurrences) (now counts) v (now row) ⌝ }
     ensures { λ r. ⌜ Looked (now (parents .entry)) (now (ends .entry)) (now (occurrences .entry)) v (now (row .entry)) r (now (row .exit)) ⌝ }
 {
     let k = ends.len();
     let j = flags::first_missing(counts, parents.len(), k, v);
     if j < k {
-        return Found {
+        return Why {
             reason: Reason::NotFull(j as u32),
             occurrences: [0; 8],
         };
@@ -135,13 +134,13 @@ pub fn explain(
 }
 
 // An explanation in numbers: the case's number and its word, 0 where it names none; both 0 under a refusal.
-pub fn number(e: Explanation) -> Numbered
-    ensures { λ r. ⌜ r ≡ numbered e ⌝ }
+pub fn in_numbers(e: Explanation) -> Numbers
+    ensures { λ r. ⌜ r ≡ numbersOf e ⌝ }
 {
     let reply = e.reply;
     let occurrences = e.occurrences;
     if reply.refusal != index::ACCEPTED {
-        return Numbered {
+        return Numbers {
             reply,
             reason: 0,
             word: 0,
@@ -150,19 +149,19 @@ pub fn number(e: Explanation) -> Numbered
     }
     let reason = e.reason;
     match reason {
-        Reason::NotFull(j) => Numbered {
+        Reason::NotFull(j) => Numbers {
             reply,
             reason: NOT_FULL,
             word: j,
             occurrences,
         },
-        Reason::NotListed(j) => Numbered {
+        Reason::NotListed(j) => Numbers {
             reply,
             reason: NOT_LISTED,
             word: j,
             occurrences,
         },
-        Reason::Listed => Numbered {
+        Reason::Listed => Numbers {
             reply,
             reason: LISTED,
             word: 0,

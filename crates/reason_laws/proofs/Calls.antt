@@ -18,9 +18,9 @@ use Rattle.seq.proofs.Laws.Bools.{bool-cases, cond-true, cond-false}
 use Rattle.index.specs.declared.Reply.{Reply}
 use Rattle.index.specs.Index.{Index, wanted}
 use Rattle.index.specs.Replies.{accepted, workAfter}
-use Rattle.reason.specs.declared.Numbered.{Numbered}
-use Rattle.reason.specs.Reasons.{Told, LISTED, naming, told, reasonOf, lowestOwns}
-use Rattle.reason.specs.Contracts.{reasonReply, explains, toldAfter, lowestAfter, inNumbers, ExplainedInNumbers}
+use Rattle.reason.specs.declared.Numbers.{Numbers}
+use Rattle.reason.specs.Reasons.{Naming, LISTED, naming, reasonOf, lowestOwns}
+use Rattle.reason.specs.Contracts.{reasonReply, explains, toldAfter, lowestAfter, withNumbers, ExplainedInNumbers}
 use Rattle.reason.specs.Plain.{OneReason, Lowest}
 use Rattle.reason.proofs.Meaning.{one-reason, lowest-right, lowest-unique, listed-elca, unlisted-zeros}
 use Rattle.demands.specs.Calls.{WorkLeft}
@@ -38,10 +38,10 @@ module _ (I : Index) (v : ℕ) (w : List ℕ) where
   no ne = ne-eqb (reasonReply I v w .refusal) accepted ne
 
   -- ---- what is told
-  abbrev given : Told
+  abbrev given : Naming
   given = toldAfter (naming 0 0) I v w
 
-  abbrev reason : Told
+  abbrev reason : Naming
   reason = reasonOf (I .parents) (I .positive) (wanted I) v
 
   pub given-reason : reasonReply I v w .refusal ≡ accepted → given ≡ reason
@@ -61,8 +61,8 @@ module _ (I : Index) (v : ℕ) (w : List ℕ) where
   lowest-nothing ne = cond-false _ (no ne) _ _
 
   -- The definitions' outcome does what is demanded.
-  abbrev outcome : Numbered
-  outcome = inNumbers (reasonReply I v w) given (lowestAfter I v w)
+  abbrev outcome : Numbers
+  outcome = withNumbers (reasonReply I v w) given (lowestAfter I v w)
 
   pub outcome-demands : ReasonDemands I v w outcome (workAfter 0 I w)
   outcome-demands = record {
@@ -71,16 +71,16 @@ module _ (I : Index) (v : ℕ) (w : List ℕ) where
     reason = λ e. subst (OneReason (I .parents) (I .positive) (wanted I) v) (sym (given-reason e)) (one-reason I (right I v w e) (some-words I v w e) v);
     lowest = λ e q.
         subst (Lowest (I .parents) (I .positive) (wanted I) v) (sym (lowest-given e))
-        (lowest-right I (right I v w e) (some-words I v w e) v (few I v w e) (listed-elca (I .parents) (I .positive) (wanted I) v (ap (λ (t : Told). t .number) (sym (given-reason e)) ∙ q)));
+        (lowest-right I (right I v w e) (some-words I v w e) v (few I v w e) (listed-elca (I .parents) (I .positive) (wanted I) v (ap (λ (t : Naming). t .number) (sym (given-reason e)) ∙ q)));
     noLowest = λ ne. ⊎-elim
-        (λ e. lowest-given e ∙ unlisted-zeros (I .parents) (I .positive) (wanted I) v (λ q. ne (ap (λ (t : Told). t .number) (given-reason e) ∙ q)))
+        (λ e. lowest-given e ∙ unlisted-zeros (I .parents) (I .positive) (wanted I) v (λ q. ne (ap (λ (t : Naming). t .number) (given-reason e) ∙ q)))
         (λ e. lowest-nothing e)
         (accepted-or (reasonReply I v w));
-    nothing = λ ne. (ap (λ (t : Told). t .number) (given-nothing ne), ap (λ (t : Told). t .word) (given-nothing ne));
+    nothing = λ ne. (ap (λ (t : Naming). t .number) (given-nothing ne), ap (λ (t : Naming). t .word) (given-nothing ne));
   }
 
   -- And nothing else does.
-  module _ (e : Numbered) (w′ : List ℕ) (a : ReasonDemands I v w e w′) where
+  module _ (e : Numbers) (w′ : List ℕ) (a : ReasonDemands I v w e w′) where
     same-reply : e .reply ≡ reasonReply I v w
     same-reply = replied-one I v w (e .reply) (a .reply)
 
@@ -103,7 +103,7 @@ module _ (I : Index) (v : ℕ) (w : List ℕ) where
     }
       where
         number-is : e .reason ≡ given .number
-        number-is = ap (λ (t : Told). t .number) same-told
+        number-is = ap (λ (t : Naming). t .number) same-told
 
         listed-or : (n : ℕ) → (n ≡ LISTED) ⊎ (n ≡ LISTED → ⊥)
         listed-or n = ⊎-elim (λ q. inl (eqb-true n LISTED q)) (λ q. inr (eqb-false n LISTED q)) (bool-cases (eqb n LISTED))
@@ -122,20 +122,20 @@ module _ (I : Index) (v : ℕ) (w : List ℕ) where
             (λ q. a .noLowest (λ z. zero-three (sym (a .nothing (λ y. q (sym (ap (λ (x : Reply). x .refusal) same-reply) ∙ y)) .0) ∙ z)) ∙ sym (lowest-nothing q))
             (accepted-or (reasonReply I v w))
 
-  pub reason-demands : (e : Numbered) (w′ : List ℕ) → ExplainedInNumbers I v w e w′ → ReasonDemands I v w e w′
-  reason-demands e w′ c = subst (λ (x : Numbered). ReasonDemands I v w x w′) (sym whole) (subst (ReasonDemands I v w outcome) (sym (c .work)) outcome-demands)
+  pub reason-demands : (e : Numbers) (w′ : List ℕ) → ExplainedInNumbers I v w e w′ → ReasonDemands I v w e w′
+  reason-demands e w′ c = subst (λ (x : Numbers). ReasonDemands I v w x w′) (sym whole) (subst (ReasonDemands I v w outcome) (sym (c .work)) outcome-demands)
     where
       whole : e ≡ outcome
       whole =
-          ap₂ (λ (r : Reply) (l : List ℕ). inNumbers r (naming (e .reason) (e .word)) l) (c .reply) (c .occurrences)
-          ∙ ap (λ (t : Told). inNumbers (reasonReply I v w) t (lowestAfter I v w)) (c .reason)
+          ap₂ (λ (r : Reply) (l : List ℕ). withNumbers r (naming (e .reason) (e .word)) l) (c .reply) (c .occurrences)
+          ∙ ap (λ (t : Naming). withNumbers (reasonReply I v w) t (lowestAfter I v w)) (c .reason)
 
 -- ---- no second outcome
-module _ (I : Index) (v : ℕ) (w : List ℕ) (e e′ : Numbered) (w′ w″ : List ℕ) where
+module _ (I : Index) (v : ℕ) (w : List ℕ) (e e′ : Numbers) (w′ w″ : List ℕ) where
   pub reason-unique : ExplainedInNumbers I v w e w′ → ExplainedInNumbers I v w e′ w″ → (e ≡ e′) × (w′ ≡ w″)
   reason-unique a b = (
-    ap₂ (λ (r : Reply) (l : List ℕ). inNumbers r (naming (e .reason) (e .word)) l) (a .reply ∙ sym (b .reply)) (a .occurrences ∙ sym (b .occurrences))
-        ∙ ap (λ (t : Told). inNumbers (e′ .reply) t (e′ .occurrences)) (a .reason ∙ sym (b .reason)),
+    ap₂ (λ (r : Reply) (l : List ℕ). withNumbers r (naming (e .reason) (e .word)) l) (a .reply ∙ sym (b .reply)) (a .occurrences ∙ sym (b .occurrences))
+        ∙ ap (λ (t : Naming). withNumbers (e′ .reply) t (e′ .occurrences)) (a .reason ∙ sym (b .reason)),
     a .work ∙ sym (b .work),
   )
 

@@ -5,7 +5,6 @@ use Prim.Native.Nat.{ℕ}
 use mathlib.Core.Path.{_≡_, sym, ap, _∙_, subst}
 use mathlib.Core.Logic.{_↔_}
 use mathlib.Core.List.{List}
-use lib.ListN.{getD}
 use Rattle.seq.specs.Plain.{Among, FirstAre}
 use Rattle.index.specs.declared.Reply.{Reply}
 use Rattle.index.specs.Index.{Index, nodes, wanted}
@@ -13,20 +12,20 @@ use Rattle.index.specs.Replies.{accepted}
 use Rattle.answers.specs.Plain.{Elca}
 use Rattle.answers.proofs.Laws.Counts.{lists-below}
 use Rattle.elca.specs.Contracts.{ElcaSearched}
-use Rattle.reason.specs.declared.Numbered.{Numbered}
-use Rattle.reason.specs.Reasons.{Told, LISTED, reasonOf}
+use Rattle.reason.specs.declared.Numbers.{Numbers}
+use Rattle.reason.specs.Reasons.{Naming, LISTED, reasonOf}
 use Rattle.reason.specs.Contracts.{reasonReply, ExplainedInNumbers}
 use Rattle.reason.proofs.Meaning.{reason-listed}
 use Rattle.demands.proofs.Calls.{elca-demands}
 use Rattle.reason_laws.proofs.Replying.{right, some-words, node-below}
 use Rattle.reason_laws.proofs.Calls.{given-reason}
 
-module _ (I : Index) (v : ℕ) (w : List ℕ) (e : Numbered) (w′ : List ℕ) (a : ExplainedInNumbers I v w e w′) (ea : e .reply .refusal ≡ accepted) where
+module _ (I : Index) (v : ℕ) (w : List ℕ) (e : Numbers) (w′ : List ℕ) (a : ExplainedInNumbers I v w e w′) (ea : e .reply .refusal ≡ accepted) where
   accepts : reasonReply I v w .refusal ≡ accepted
   accepts = ap (λ (x : Reply). x .refusal) (sym (a .reply)) ∙ ea
 
   number-is : e .reason ≡ reasonOf (I .parents) (I .positive) (wanted I) v .number
-  number-is = ap (λ (t : Told). t .number) (a .reason ∙ given-reason I v w accepts)
+  number-is = ap (λ (t : Naming). t .number) (a .reason ∙ given-reason I v w accepts)
 
   elca-is : (e .reason ≡ LISTED) ↔ Elca (I .parents) (I .positive) (wanted I) v
   elca-is =

@@ -10,7 +10,7 @@ use lib.ListN.{length, replicate}
 use Rattle.index.specs.declared.Reply.{Reply}
 use Rattle.index.specs.Index.{Index, nodes, wanted}
 use Rattle.index.specs.Replies.{accepted, refused, totalled}
-use Rattle.reason.specs.declared.Numbered.{Numbered}
+use Rattle.reason.specs.declared.Numbers.{Numbers}
 use Rattle.reason.specs.Reasons.{LISTED, naming}
 use Rattle.reason.specs.Contracts.{NODE}
 use Rattle.reason.specs.Plain.{Lowest, OneReason}
@@ -24,7 +24,7 @@ pub record ReasonReplied (I : Index) (v w : ℕ) (r : Reply) : Type 0 where
   pub node : check .refusal ≡ accepted → nodes I ≤ v → r ≡ refused NODE 0
   pub accepts : check .refusal ≡ accepted → v < nodes I → r ≡ totalled accepted 0
 
-pub record ReasonDemands (I : Index) (v : ℕ) (w : List ℕ) (e : Numbered) (w′ : List ℕ) : Type 0 where
+pub record ReasonDemands (I : Index) (v : ℕ) (w : List ℕ) (e : Numbers) (w′ : List ℕ) : Type 0 where
   pub reply : ReasonReplied I v (length w) (e .reply)
   pub work : WorkLeft I (e .reply) w w′
   -- the reason is true, and no other is

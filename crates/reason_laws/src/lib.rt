@@ -3,7 +3,7 @@
 // (proofs/Calls), so neither can be changed without the other.
 ghost use Rattle.index.specs.Contracts.{lent};
 ghost use Rattle.reason_laws.specs.Calls.{ReasonDemands};
-use reason::Numbered;
+use reason::Numbers;
 
 // The reason for a node: true, and the only one.
 pub fn why(
@@ -16,7 +16,7 @@ pub fn why(
     counts: &[u32],
     node: u32,
     work: &mut [u32],
-) -> Numbered
+) -> Numbers
     ensures { λ r. ⌜ ReasonDemands (lent (now (parents .entry)) (now (tags .entry)) p q (now (ends .entry)) (now (occurrences .entry))
         (now (counts .entry))) node (now (work .entry)) r (now (work .exit)) ⌝ }
 {

@@ -11,7 +11,7 @@ ghost use Rattle.reader.specs.Read.{Reads};
 ghost use Rattle.reader.specs.Read as read;
 use engine::Entry;
 use index::Reply;
-use reason::Numbered;
+use reason::Numbers;
 
 // The index check alone.
 #[no_mangle]
@@ -149,12 +149,12 @@ pub extern "C" fn sq_reason(
     counts: &[u32],
     node: u32,
     work: &mut [u32],
-) -> Numbered
+) -> Numbers
     ensures { λ r. ⌜ ExplainedInNumbers (lent (now (parents .entry)) (now (tags .entry)) p q (now (ends .entry)) (now (occurrences .entry))
         (now (counts .entry))) node (now (work .entry)) r (now (work .exit)) ⌝ }
 {
     let e = reason::explain(parents, tags, p, q, ends, occurrences, counts, node, work);
-    reason::number(e)
+    reason::in_numbers(e)
 }
 
 // XML text into parents, tags, and each node's first and last place.

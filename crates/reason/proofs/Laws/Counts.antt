@@ -8,27 +8,27 @@ use lib.Dec.{eqb, ltb}
 use borrow.Author.Tests.{lt-ltb, le-ltb, eq-eqb, ne-eqb}
 use lib.ListN.{getD}
 use Rattle.seq.specs.Below.{firstFail}
-use Rattle.reason.specs.Inner.{missingBy, fullBy, flagged}
+use Rattle.reason.specs.Inner.{missingBy, noneMissing, flagBelow}
 
 pub missing-is : (cs : List ℕ) (n k v r : ℕ) → r ≡ firstFail k (λ j. ltb 0 (getD cs (j * n + v) 0)) → r ≡ missingBy cs n k v
 unfolding missingBy
 missing-is cs n k v r e = e
 
 module _ (cs : List ℕ) (n k u a : ℕ) where
-  pub flagged-is : flagged cs n k u a ≡ cond (not (eqb a 0) && not (fullBy cs n k u)) 1 0
-  unfolding flagged
-  flagged-is = refl
+  pub flag-below-is : flagBelow cs n k u a ≡ cond (not (eqb a 0) && not (noneMissing cs n k u)) 1 0
+  unfolding flagBelow
+  flag-below-is = refl
 
   -- Nothing below a node that is not flagged is flagged.
-  pub flagged-none : a ≡ 0 → 0 ≡ flagged cs n k u a
-  unfolding flagged
-  flagged-none e = rw (eq-eqb a 0 e) refl
+  pub flag-below-none : a ≡ 0 → 0 ≡ flagBelow cs n k u a
+  unfolding flagBelow
+  flag-below-none e = rw (eq-eqb a 0 e) refl
 
   module _ (ne : a ≡ 0 → ⊥) (j : ℕ) (e : j ≡ missingBy cs n k u) where
-    pub flagged-missing : j < k → 1 ≡ flagged cs n k u a
-    unfolding flagged
-    flagged-missing l = rw (ne-eqb a 0 ne, sym e, lt-ltb j k l) refl
+    pub flag-below-missing : j < k → 1 ≡ flagBelow cs n k u a
+    unfolding flagBelow
+    flag-below-missing l = rw (ne-eqb a 0 ne, sym e, lt-ltb j k l) refl
 
-    pub flagged-full : k ≤ j → 0 ≡ flagged cs n k u a
-    unfolding flagged
-    flagged-full l = rw (ne-eqb a 0 ne, sym e, le-ltb j k l) refl
+    pub flag-below-full : k ≤ j → 0 ≡ flagBelow cs n k u a
+    unfolding flagBelow
+    flag-below-full l = rw (ne-eqb a 0 ne, sym e, le-ltb j k l) refl

@@ -1,6 +1,6 @@
 -- `reason::finding::find` meets its contract: glue over Lowest.
 use Prim.Native.Nat.{_-_, _≤_}
-use mathlib.Core.Path.{refl, sym, ap, _∙_}
+use mathlib.Core.Path.{refl}
 use denote.Ref.{now}
 use lib.ListN.{length}
 use native.Mathlib.Omega.{arith}
@@ -8,10 +8,6 @@ use borrow.Author.Needs.{needs}
 use Rattle.reason.proofs.Lowest.{Seeking, seeking-start, list-rises, list-within, list-below, seeking-stops, seeking-step, seeking-end}
 use Rattle.reason.proofs.finding.find.Statement.{statement}
 use Rattle.reason.proofs.finding.find.Tie as tie
-use Rattle.reason.proofs.finding.find.Reads as reads
-use Rattle.reason.proofs.finding.find.Lts as lts
-use Rattle.reason.proofs.finding.first_flagged.Reads as first-flagged-reads
-use Rattle.seq.proofs.widen.Reads as widen-reads
 
 abbrev Inv-loop : tie.InvT-loop
 Inv-loop ends occurrences row n lowest₀ from₀ j₀ lowest from j = Seeking ends occurrences row lowest₀ lowest from j
@@ -35,81 +31,63 @@ rises c = list-rises _ _ _ _ _ _ _ _ (start c .pre) (turn c .loop .inv) (c .befo
 within : (c : tie.After-widen Inv-loop μ-loop) → c .widen .result ≤ length (now (start c .args .occurrences))
 within c = list-within _ _ _ _ _ _ _ _ (start c .pre) (turn c .loop .inv) (c .before .before .loop-test .taken) (c .widen .ensures)
 
--- src/finding.rt:38:5
 loop-holds : tie.Need-loop-holds Inv-loop μ-loop
 loop-holds c = seeking-start _ _ _ _
 
--- src/finding.rt:39:29
 mul-widen : tie.Need-mul-widen Inv-loop μ-loop
 mul-widen c = search needs
 
--- src/finding.rt:39:29
 shared-slice-read-widen : tie.Need-shared-slice-read-widen Inv-loop μ-loop
 shared-slice-read-widen c = search needs
 
--- src/finding.rt:39:13
 widen-requires : tie.Need-widen-requires Inv-loop μ-loop
 widen-requires c κs = tt
 
--- src/finding.rt:40:31
 mul-first-flagged : tie.Need-mul-first-flagged Inv-loop μ-loop
 mul-first-flagged c = omega (arith, rises c, within c, start c .good)
 
--- src/finding.rt:40:31
 sub-first-flagged : tie.Need-sub-first-flagged Inv-loop μ-loop
 sub-first-flagged c = rises c
 
--- src/finding.rt:40:31
 part-first-flagged-start : tie.Need-part-first-flagged-start Inv-loop μ-loop
 part-first-flagged-start c = rises c
 
--- src/finding.rt:40:31
 part-first-flagged-end : tie.Need-part-first-flagged-end Inv-loop μ-loop
 part-first-flagged-end c = within c
 
--- src/finding.rt:40:13
 first-flagged-requires : tie.Need-first-flagged-requires Inv-loop μ-loop
 first-flagged-requires c κs =
     let w = c .before in
     list-below _ _ _ _ _ _ _ _ (start w .pre) (turn w .loop .inv) (w .before .before .loop-test .taken) (w .widen .ensures)
 
--- src/finding.rt:43:43
 cast-t18 : tie.Need-cast-t18 Inv-loop μ-loop
 cast-t18 c = search needs
 
--- src/finding.rt:42:13
 returns : tie.Need-returns Inv-loop μ-loop
 returns c =
     let w = taking (c .before) in
     seeking-stops _ _ _ _ _ _ _ _ (start w .pre) (turn w .loop .inv) (w .before .before .loop-test .taken) (w .widen .ensures) _ (c .before .first-flagged .ensures) (c .if1 .taken)
 
--- src/finding.rt:47:21
 cast-lowest : tie.Need-cast-lowest Inv-loop μ-loop
 cast-lowest c = search needs
 
--- src/finding.rt:47:9
 mul-lowest : tie.Need-mul-lowest Inv-loop μ-loop
 mul-lowest c = search needs
 
--- src/finding.rt:47:9
 array-write-lowest : tie.Need-array-write-lowest Inv-loop μ-loop
 array-write-lowest c = search needs
 
--- src/finding.rt:49:9
 add-j : tie.Need-add-j Inv-loop μ-loop
 add-j c = search needs
 
--- src/finding.rt:38:5
 loop-less : tie.Need-loop-less Inv-loop μ-loop
 loop-less c = search needs
 
--- src/finding.rt:38:5
 loop-again : tie.Need-loop-again Inv-loop μ-loop
 loop-again c =
     let w = taking (c .before) in
     seeking-step _ _ _ _ _ _ _ _ (start w .pre) (turn w .loop .inv) (w .before .before .loop-test .taken) (w .widen .ensures) _ (c .before .first-flagged .ensures) refl (c .if1 .left)
 
--- src/finding.rt:30:1
 returns-2 : tie.Need-returns-2 Inv-loop μ-loop
 returns-2 c = seeking-end _ _ _ _ _ _ (c .before .loop .inv) (c .loop-test .left)
 

@@ -7,9 +7,6 @@ use Rattle.seq.proofs.Laws.Scan.{Scan, scan-start}
 use Rattle.reason.proofs.Lowest.{unflagged, lowest-step, lowest-here, lowest-none}
 use Rattle.reason.proofs.finding.first_flagged.Statement.{statement}
 use Rattle.reason.proofs.finding.first_flagged.Tie as tie
-use Rattle.reason.proofs.finding.first_flagged.Reads as reads
-use Rattle.reason.proofs.finding.first_flagged.Lts as lts
-use Rattle.seq.proofs.widen.Reads as widen-reads
 
 abbrev Inv-loop : tie.InvT-loop
 Inv-loop list row i₀ i = Scan (length list) (unflagged row list) i
@@ -24,47 +21,36 @@ start c = c .before .before .before .before .before .before
 node : (c : tie.After-widen Inv-loop μ-loop) → c .widen .result < length (start c .args .row .now)
 node c = omega (arith, c .widen .ensures, start c .pre (c .before .before .before .loop .i) (c .before .before .loop-test .taken))
 
--- src/finding.rt:19:5
 loop-holds : tie.Need-loop-holds Inv-loop μ-loop
 loop-holds c = scan-start _ _
 
--- src/finding.rt:20:28
 mul-widen : tie.Need-mul-widen Inv-loop μ-loop
 mul-widen c = search needs
 
--- src/finding.rt:20:28
 shared-slice-read-widen : tie.Need-shared-slice-read-widen Inv-loop μ-loop
 shared-slice-read-widen c = search needs
 
--- src/finding.rt:20:13
 widen-requires : tie.Need-widen-requires Inv-loop μ-loop
 widen-requires c κs = tt
 
--- src/finding.rt:21:12
 mul-if1 : tie.Need-mul-if1 Inv-loop μ-loop
 mul-if1 c = omega (arith, node c, start c .good)
 
--- src/finding.rt:21:12
 shared-slice-read-if1 : tie.Need-shared-slice-read-if1 Inv-loop μ-loop
 shared-slice-read-if1 c = node (c .before)
 
--- src/finding.rt:22:13
 returns : tie.Need-returns Inv-loop μ-loop
 returns c = lowest-here _ _ _ _ (c .before .before .widen .ensures) (c .before .before .before .before .before .loop .inv) (c .before .before .before .before .loop-test .taken) (c .if1 .taken)
 
--- src/finding.rt:24:9
 add-i : tie.Need-add-i Inv-loop μ-loop
 add-i c = search needs
 
--- src/finding.rt:19:5
 loop-less : tie.Need-loop-less Inv-loop μ-loop
 loop-less c = search needs
 
--- src/finding.rt:19:5
 loop-again : tie.Need-loop-again Inv-loop μ-loop
 loop-again c = lowest-step _ _ _ _ (c .before .before .widen .ensures) (c .before .before .before .before .before .loop .inv) (c .before .before .before .before .loop-test .taken) (c .if1 .left)
 
--- src/finding.rt:14:1
 returns-2 : tie.Need-returns-2 Inv-loop μ-loop
 returns-2 c = lowest-none _ _ _ (c .before .loop .inv) (c .loop-test .left)
 

@@ -4,17 +4,13 @@ use mathlib.Core.Path.{_≡_, sym, ap, _∙_}
 use lib.ListN.{length, length-replicate}
 use native.Mathlib.Omega.{arith}
 use borrow.Author.Needs.{needs}
-use Rattle.reason.specs.Inner.{fullBy}
+use Rattle.reason.specs.Inner.{noneMissing}
 use Rattle.reason.proofs.Flagging.{Flagging, flagging-start, flagging-up, flagging-turn, flagging-out, flagging-end, flagging-whole}
 use Rattle.reason.proofs.flags.flag_own.Statement.{statement}
 use Rattle.reason.proofs.flags.flag_own.Tie as tie
-use Rattle.reason.proofs.flags.flag_own.Reads as reads
-use Rattle.reason.proofs.flags.flag_own.Lts as lts
-use Rattle.reason.proofs.flags.flag_of.Reads as flag-of-reads
-use Rattle.seq.proofs.widen.Reads as widen-reads
 
 abbrev Inv-loop : tie.InvT-loop
-Inv-loop parents counts k v row₀ n u₀ row u = Flagging parents (fullBy counts n k) v row u
+Inv-loop parents counts k v row₀ n u₀ row u = Flagging parents (noneMissing counts n k) v row u
 
 abbrev μ-loop : tie.MeasureT-loop
 μ-loop parents counts k v row₀ n u₀ row u = n - u
@@ -35,39 +31,30 @@ up c =
 flags-long : (c : tie.Start Inv-loop μ-loop) → length (c .args .row .now) ≡ length (c .args .parents .now)
 flags-long c = ap length (c .pre .zeros) ∙ length-replicate (length (c .args .parents .now)) 0
 
--- src/flags.rt:42:5
 mul-row : tie.Need-mul-row Inv-loop μ-loop
 mul-row c = search needs
 
--- src/flags.rt:42:5
 slice-write-row : tie.Need-slice-write-row Inv-loop μ-loop
 slice-write-row c = omega (arith, flags-long (c .before .before .before), c .before .before .before .pre .node)
 
--- src/flags.rt:43:17
 add-u : tie.Need-add-u Inv-loop μ-loop
 add-u c = search needs
 
--- src/flags.rt:44:5
 loop-holds : tie.Need-loop-holds Inv-loop μ-loop
 loop-holds c = flagging-start _ _ _ (c .before .before .before .pre .preorder) (c .before .before .before .pre .node) _ (c .before .before .before .pre .zeros)
 
--- src/flags.rt:45:29
 mul-widen : tie.Need-mul-widen Inv-loop μ-loop
 mul-widen c = search needs
 
--- src/flags.rt:45:29
 shared-slice-read-widen : tie.Need-shared-slice-read-widen Inv-loop μ-loop
 shared-slice-read-widen c = search needs
 
--- src/flags.rt:45:13
 widen-requires : tie.Need-widen-requires Inv-loop μ-loop
 widen-requires c κs = search needs
 
--- src/flags.rt:47:13
 same-length : tie.Need-same-length Inv-loop μ-loop
 same-length c = turn (c .before) .loop .inv .long ∙ sym (flags-long (start (turn (c .before))))
 
--- src/flags.rt:47:13
 returns : tie.Need-returns Inv-loop μ-loop
 returns c =
     let t = turn (c .before) in
@@ -75,35 +62,27 @@ returns c =
     let e = flagging-out _ _ _ (s .preorder) (s .node) _ _ (t .loop .inv) (c .before .before .before .loop-test .taken) (omega (arith, c .before .widen .ensures, c .if1 .taken)) in
     record { end = e; flags = flagging-whole _ _ _ (s .preorder) (s .node) _ _ (t .loop .inv) e }
 
--- src/flags.rt:49:45
 mul-flag-of : tie.Need-mul-flag-of Inv-loop μ-loop
 mul-flag-of c = omega (arith, up (c .before), turn (c .before) .loop .inv .long, start (turn (c .before)) .good)
 
--- src/flags.rt:49:45
 slice-read-flag-of : tie.Need-slice-read-flag-of Inv-loop μ-loop
 slice-read-flag-of c = up (c .before .before)
 
--- src/flags.rt:49:13
 flag-of-requires : tie.Need-flag-of-requires Inv-loop μ-loop
 flag-of-requires c κs = search needs
 
--- src/flags.rt:50:9
 mul-row-2 : tie.Need-mul-row-2 Inv-loop μ-loop
 mul-row-2 c = search needs
 
--- src/flags.rt:50:9
 slice-write-row-2 : tie.Need-slice-write-row-2 Inv-loop μ-loop
 slice-write-row-2 c = search needs
 
--- src/flags.rt:51:9
 add-u-2 : tie.Need-add-u-2 Inv-loop μ-loop
 add-u-2 c = search needs
 
--- src/flags.rt:44:5
 loop-less : tie.Need-loop-less Inv-loop μ-loop
 loop-less c = search needs
 
--- src/flags.rt:44:5
 loop-again : tie.Need-loop-again Inv-loop μ-loop
 loop-again c =
     let w = c .before .before .before in
@@ -111,11 +90,9 @@ loop-again c =
     let s = start t .pre in
     flagging-turn _ _ _ _ (s .preorder) (s .node) _ _ _ _ (t .loop .inv) (w .before .before .loop-test .taken) (w .widen .ensures) (c .before .before .if1 .left) (c .flag-of .ensures)
 
--- src/flags.rt:37:1
 same-length-2 : tie.Need-same-length-2 Inv-loop μ-loop
 same-length-2 c = c .before .loop .inv .long ∙ sym (flags-long (start (c .before)))
 
--- src/flags.rt:37:1
 returns-2 : tie.Need-returns-2 Inv-loop μ-loop
 returns-2 c =
     let s = start (c .before) .pre in
