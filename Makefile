@@ -9,7 +9,13 @@ lib: target/lib/libsonquilate.a target/lib/sonquilate.h target/lib/sonquilate.pc
 target/lib/libsonquilate.a: crates.txt $(shell find crates)
 	rt staticlib sonquilate
 	mkdir -p target/lib
+# each function at the begin of a line of the cache: else where a linker happens to put it decides up to a third of a call's time
+ifeq ($(shell uname -m),x86_64)
+	host/need objcopy
+	objcopy --set-section-alignment '.text.*=64' target/staticlib/libsonquilate.a $@
+else
 	cp target/staticlib/libsonquilate.a $@
+endif
 
 target/lib/%: include/%
 	mkdir -p target/lib

@@ -4,14 +4,14 @@ kit=$(cd "$(dirname "$(rt doc)")/.." && pwd)
 tools=$kit/on/$(uname -m)/toolchain
 link=$kit/on/$(uname -m)/bin/rattle-link
 
-# build PROGRAM FILE.c...: with the kit's clang, over the library of `make lib`
+# build PROGRAM FILE.c...: with the kit's clang, over the library of `make lib`; each function at the begin of a line of the cache, as in the library
 build() {
     local program=$1 objects=() file object
     shift
     mkdir -p "$(dirname "$program")"
     for file in "$@"; do
         object=$(dirname "$program")/$(basename "$file" .c).o
-        "$tools/bin/clang" --target=x86_64-unknown-linux-gnu -std=c11 -O3 -Wall -Wextra -Werror -fPIC -nostdinc -isystem host/x86-64 -Iinclude -c "$file" -o "$object"
+        "$tools/bin/clang" --target=x86_64-unknown-linux-gnu -std=c11 -O3 -falign-functions=64 -Wall -Wextra -Werror -fPIC -nostdinc -isystem host/x86-64 -Iinclude -c "$file" -o "$object"
         objects+=("$object")
     done
     "$link" --target x86_64-unknown-linux-gnu --toolchain "$tools" -o "$program" "${objects[@]}" target/lib/libsonquilate.a 2>"$program.linked" ||

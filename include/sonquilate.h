@@ -48,7 +48,7 @@
  * Such a tree is one that the searches take: its parents and tags never give SQ_TREE. [P: read-lawful]
  *
  * REPLIES of all calls but sq_read. Of the refusals that apply the lowest number is given; a length is asked for where the call
- * takes the slice. [P: checkReply, elcaReply, slcaReply, validReply, mergeElcaReply, mergeSlcaReply]
+ * takes the slice. [P: checkReply, elcaReply, slcaReply, validReply, mergeElcaReply, mergeSlcaReply, reasonReply]
  *   number      given exactly when                                                             place                  total
  *   SQ_OK       nothing below applies                                                          0                      the answers
  *   SQ_SIZE     n is not from 1 to 65,536, p not from 1 to 8, or k above 8; tags are not       0                      0
@@ -62,8 +62,9 @@
  *               below n
  *   SQ_COUNT    an entry of counts is not the number of occurrences                            the lowest such entry  0
  *   SQ_ROOM     out, or own in sq_elca and sq_merge_elca, is too short for the answers         0                      the answers
- * sq_check has no answers: its total is always 0, and it never gives SQ_ROOM. sq_merge_elca and sq_merge_slca take no counts, and
- * never give SQ_COUNT. "The answers" is how many there are.
+ *   SQ_NODE     in sq_reason alone: node is n or more                                          0                      0
+ * sq_check and sq_reason have no answers: their total is always 0, and they never give SQ_ROOM. sq_merge_elca and sq_merge_slca
+ * take no counts, and never give SQ_COUNT. "The answers" is how many there are.
  *
  * REPLIES of sq_read. SQ_SIZE goes before all others; of SQ_MARKUP and SQ_TREE the one whose byte comes first is given; SQ_ROOM
  * comes last. [P: readReply]
@@ -129,8 +130,8 @@ typedef struct sq_entry {
     uint32_t covered[8];
 } sq_entry;
 
-/* What sq_reason gives: a reply; the case of the reason, and the word that it names; and the occurrences that the case SQ_LISTED has,
- * one for each word. What a case does not have is 0, and so is everything but the reply under a refusal. */
+/* What sq_reason gives: a reply; the case of the reason, and the word that it names; and the occurrences that the case SQ_LISTED
+ * has, one for each word. What a case does not have is 0, and so is everything but the reply under a refusal. */
 typedef struct sq_explanation {
     sq_reply reply;
     uint32_t reason;
@@ -200,20 +201,19 @@ sq_reply sq_merge_slca(const uint32_t *parents, size_t parents_len, const uint32
                        uint32_t q, const uint32_t *ends, size_t ends_len, const uint32_t *occurrences, size_t occurrences_len,
                        sq_entry *stack, size_t stack_len, uint32_t *out, size_t out_len);
 
-/* Why is this node listed? The reason why sq_elca lists a node, or does not, on the same index. q must be 0. Exactly one of three
- * cases holds of each node, and it is given [P: one-reason]:
+/* Why is this node listed? The reason why sq_elca lists a node, or does not, on the same index. q must be 0. Of each node exactly
+ * one of three cases holds, with one word, and it is given [P: toldAfter, one-reason]:
  *   SQ_NOT_FULL    the node is not full: word `word` has no occurrence under it, and each word before it has one
- *   SQ_NOT_LISTED  the node is full, but its own count for word `word` is 0, and that for each word before it is not: every
- *                  occurrence of this word under the node is under a full node below it
- *   SQ_LISTED      sq_elca lists the node; occurrences[j] is the lowest of its own occurrences of word j, for each j below p; word
- *                  is 0, and so are the occurrences from p on
- * In the other two cases all 8 occurrences are 0. Words are counted from 0. A word with an empty list is missing under every
- * node, and is no refusal. In a dispatcher's words, where word 0 is a station and word 1 a clock change:
+ *   SQ_NOT_LISTED  the node is full; its own count for word `word` is 0, so that every occurrence of this word under it is under
+ *                  a full node below it; and its own count for each word before it is 1 or more
+ *   SQ_LISTED      sq_elca lists the node [P: listed-exactly]; for each word j below p, occurrences[j] is the lowest of the word's
+ *                  occurrences that are the node's own [P: lowestAfter, lowest-right]; from p on they are 0, and so is word
+ * In the first two cases all occurrences are 0. Words are counted from 0. A word with an empty list is missing under every node,
+ * and is no refusal. In a dispatcher's words, of document 01's schedule with a station as word 0 and a zone as word 1:
  *   "node 7 is not full: word 1 does not occur under it"
  *   "node 1 is full, but every occurrence of word 1 under it is under a smaller full node"
- *   "node 0 is listed: word 0 is its own at node 17, word 1 at node 15"
- * Replies: those of sq_check in its order, then SQ_NODE where node is n or more, or SQ_OK. Place and total of SQ_NODE and of SQ_OK
- * are 0. [P: reasonReply]
+ *   "node 0 is listed: its first own word 0 is at node 17, its first own word 1 at node 15"
+ * Replies: those of sq_check in its order, then SQ_NODE where node is n or more, or SQ_OK. [P: reasonReply]
  * Buffers: work as above. [P: workAfter] */
 sq_explanation sq_reason(const uint32_t *parents, size_t parents_len, const uint32_t *tags, size_t tags_len, uint32_t p,
                          uint32_t q, const uint32_t *ends, size_t ends_len, const uint32_t *occurrences,
