@@ -3,7 +3,7 @@
 --   Seeking                     the loop over the words
 -- Letters: ends, occ occurrences, fl flags, l list; i place in the list, x entry; j word, low the row of lowest entries, low₀ as it began.
 use Prim.Native.Nat.{ℕ, _+_, _-_, _≤_, _<_}
-use mathlib.Core.Path.{_≡_, refl, sym, ap, ap₂, _∙_, subst}
+use mathlib.Core.Path.{_≡_, refl, sym, ap, _∙_}
 use mathlib.Core.List.{List}
 use mathlib.Core.Bool.{Bool, true, false, not}
 use native.Mathlib.Nat.{le-antisymm}
@@ -20,7 +20,8 @@ use Rattle.seq.proofs.Laws.Lists.{firstOf-place, getD-any}
 use Rattle.seq.proofs.Laws.Loops.{Filling, filling-start, filling-step}
 use Rattle.seq.proofs.Laws.Memory.{over-nil}
 use Rattle.seq.proofs.Laws.Scan.{Scan, scan-start, scan-step, scan-fails, scan-end}
-use Rattle.index.specs.Index.{start, wordList}
+use Rattle.index.specs.Index.{start}
+use Rattle.index.proofs.Laws.Lists.{part-rises, part-within, part-is, part-below}
 use Rattle.reason.specs.declared.Reason.the-variants.{NotListed, Listed}
 use Rattle.reason.specs.Reasons.{NOT-LISTED, naming}
 use Rattle.reason.specs.Inner.{lowestBy, lowestIn, unownedBy, FindPre, stops, Finds}
@@ -70,25 +71,21 @@ seeking-start ends occ fl low₀ = record { begins = refl; passed = scan-start (
 
 module _ (ends occ fl low₀ low : List ℕ) (begin j to : ℕ) (pre : FindPre ends occ fl) (s : Seeking ends occ fl low₀ low begin j) (h : j < length ends) (e : to ≡ getD ends j 0) where
   pub list-rises : begin ≤ to
-  list-rises = omega (arith, s .begins, pre .words j h .rising)
+  list-rises = part-rises (length fl) ends occ j begin to (pre .words j h) (s .begins) e
 
   pub list-within : to ≤ length occ
-  list-within = omega (arith, pre .words j h .within)
+  list-within = part-within (length fl) ends occ j begin to (pre .words j h) (s .begins) e
 
   -- The word's list, as the code takes it.
   abbrev part : List ℕ
   part = take (to - begin) (drop begin occ)
 
-  part-is : wordList ends occ j ≡ part
-  unfolding wordList
-  part-is = ap₂ (λ (f t : ℕ). take (t - f) (drop f occ)) (sym (s .begins)) (sym e)
-
   pub list-below : EachBelow (length fl) part
-  list-below = subst (EachBelow (length fl)) part-is (pre .words j h .list .below)
+  list-below = part-below (length fl) ends occ j begin to (pre .words j h) (s .begins) e
 
   module _ (x : ℕ) (ex : x ≡ lowestBy fl part) where
     x-is : x ≡ lowestIn ends occ fl j
-    x-is = ex ∙ ap (lowestBy fl) (sym part-is)
+    x-is = ex ∙ ap (lowestBy fl) (sym (part-is (length fl) ends occ j begin to (pre .words j h) (s .begins) e))
 
     -- The first word without a flagged entry.
     pub seeking-stops : length fl ≤ x → Finds ends occ fl (record { reason = NotListed j; occurrences = replicate 8 0 })

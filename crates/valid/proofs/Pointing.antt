@@ -23,7 +23,8 @@ use Rattle.seq.proofs.Laws.Loops.{filled-more}
 use Rattle.tree.specs.Tree.{parent}
 use Rattle.tree.specs.Plain.{Down}
 use Rattle.tree.proofs.Laws.Children.{parent-less}
-use Rattle.index.specs.Index.{start, wordList}
+use Rattle.index.specs.Index.{start}
+use Rattle.index.proofs.Laws.Lists.{part-rises, part-within, part-is, part-below}
 use Rattle.valid.specs.Inner.Tops.{topAbove, topHere, topBy, AbovePre, PointPre, Pointed, SeePre, Saw, passed, saw, SeeListPre, pointsIn, SawList, reached, points, SeeWordsPre, SawWords, flagHere, SettlePre, Settled}
 use Rattle.valid.proofs.Above.{topOf-first, topOf-suc}
 use Rattle.valid.proofs.Reached.{reached-zero, reached-suc}
@@ -242,24 +243,20 @@ module _ (n k : ℕ) (ends occ w₀ : List ℕ) (pre : SeeWordsPre n k ends occ 
   -- `to` is the word's end, as the code has it.
   module _ (w : List ℕ) (j begin : ℕ) (s : Words n k ends occ w₀ w j begin) (h : j < k) (to : ℕ) (e : to ≡ getD ends j 0) where
     pub words-rise : begin ≤ to
-    words-rise = omega (arith, s .begins, pre .words j h .rising)
+    words-rise = part-rises n ends occ j begin to (pre .words j h) (s .begins) e
 
     pub words-within : to ≤ length occ
-    words-within = omega (arith, pre .words j h .within)
+    words-within = part-within n ends occ j begin to (pre .words j h) (s .begins) e
 
     -- The word's list, as the code takes it.
     abbrev pub part : List ℕ
     part = take (to - begin) (drop begin occ)
 
-    part-is : wordList ends occ j ≡ part
-    unfolding wordList
-    part-is = ap₂ (λ (f t : ℕ). take (t - f) (drop f occ)) (sym (s .begins)) (sym e)
-
-    part-below : EachBelow n part
-    part-below = subst (EachBelow n) part-is (pre .words j h .list .below)
+    below : EachBelow n part
+    below = part-below n ends occ j begin to (pre .words j h) (s .begins) e
 
     pub words-list-pre : SeeListPre n j part w
-    words-list-pre = record { few = pre .few; word = omega (arith, pre .fewWords); list = part-below; long = s .long }
+    words-list-pre = record { few = pre .few; word = omega (arith, pre .fewWords); list = below; long = s .long }
 
     pub words-step : (w′ : List ℕ) → SawList n j part w w′ → Words n k ends occ w₀ w′ (j + 1) to
     unfolding start
@@ -275,7 +272,7 @@ module _ (n k : ℕ) (ends occ w₀ : List ℕ) (pre : SeeWordsPre n k ends occ 
     }
       where
         same : (a : ℕ) → pointsIn w part a ≡ points w₀ ends occ a j
-        same a = someOf-ext _ _ n part part-below (λ x l. ap (λ (z : ℕ). eqb z a) (s .tops x l)) ∙ ap (λ (z : List ℕ). pointsIn w₀ z a) (sym part-is)
+        same a = someOf-ext _ _ n part below (λ x l. ap (λ (z : ℕ). eqb z a) (s .tops x l)) ∙ ap (λ (z : List ℕ). pointsIn w₀ z a) (sym (part-is n ends occ j begin to (pre .words j h) (s .begins) e))
 
   pub words-end : (w : List ℕ) (j begin : ℕ) → Words n k ends occ w₀ w j begin → k ≤ j → SawWords n k ends occ w₀ w
   words-end w j begin s h = record {
