@@ -8,19 +8,19 @@
 use Prim.Native.Nat.{ℕ, _+_, _-_, _≤_, _<_}
 use mathlib.Core.Path.{_≡_, refl, sym, ap, ap₂, _∙_, subst}
 use mathlib.Core.Logic.{⊎-elim}
-use mathlib.Core.List.{List, []}
-use mathlib.Core.Bool.{Bool, true, false, not, cond, _&&_}
+use mathlib.Core.List.{List}
+use mathlib.Core.Bool.{Bool, true, false, not}
 use native.Mathlib.Omega.{arith}
 use borrow.Author.Tests.{lt-ltb, le-ltb}
 use borrow.Rule.Slice.PartMut.{putMid, midOf}
 use lib.Dec.{eqb, ltb, leb}
 use lib.ListN.{length, getD, drop, replicate, length-replicate, length-drop, getD-replicate}
 use lib.Seq.{ext-getD, length-take-le}
-use Rattle.seq.specs.Below.{everyBelow, tabulate}
+use Rattle.seq.specs.Below.{tabulate}
 use Rattle.seq.specs.Lists.{someOf, firstOf, EachBelow}
 use Rattle.seq.specs.Memory.{over}
-use Rattle.seq.proofs.Laws.Bools.{bool-cases, cond-true, cond-false, and-false-left}
-use Rattle.seq.proofs.Laws.Below.{first-ext, first-below, every-first}
+use Rattle.seq.proofs.Laws.Bools.{bool-cases, cond-true, cond-false}
+use Rattle.seq.proofs.Laws.Below.{first-ext, first-below}
 use Rattle.seq.proofs.Laws.Numbers.{less-or}
 use Rattle.seq.proofs.Laws.Gather.{length-tabulate, getD-tabulate, tabulate-ext}
 use Rattle.seq.proofs.Laws.Lists.{someOf-tally, firstOf-none, firstOf-ext, firstOf-any}
@@ -35,54 +35,12 @@ use Rattle.index.specs.Plain.{WordKept}
 use Rattle.answers.specs.Answers.{full, own, ownCount, elca}
 use Rattle.reason.specs.declared.Reason.the-variants.{NotFull}
 use Rattle.reason.specs.declared.finding.Why.{Why}
-use Rattle.reason.specs.Reasons.{NOT-FULL, NOT-LISTED, LISTED, naming, missing, unowned, reasonOf, lowestOwn, lowestOwns}
+use Rattle.reason.specs.Reasons.{NOT-FULL, NOT-LISTED, naming, missing, unowned, lowestOwn}
 use Rattle.reason.specs.Inner.{missingBy, noneMissing, ownIf, RowsPre, FlagPre, OwnFlagged, lowestBy, lowestIn, unownedBy, stops, FindPre, Finds, LookPre, Looked}
 use Rattle.reason.proofs.Flagging.{bit}
+use Rattle.reason.proofs.Laws.Reasons.{full-missing, missing-elca, reason-missing, elca-unowned, reason-unowned, reason-elca, lowest-some, lowest-none}
 use Rattle.reason.proofs.Laws.Own.{ownIf-outside, ownIf-ext}
 
--- ---- by the definitions alone
-module _ (p : List ℕ) (k : ℕ) (W : ℕ → List ℕ) (v : ℕ) where
-  pub full-missing : full p k W v ≡ not (ltb (missing p k W v) k)
-  unfolding full missing
-  full-missing = every-first k (λ j. someOf (under p v) (W j))
-
-  -- A node that is not full.
-  module _ (f : full p k W v ≡ false) where
-    no-elca : elca p k W v ≡ false
-    unfolding elca
-    no-elca = and-false-left (full p k W v) _ f
-
-    pub reason-missing : reasonOf p k W v ≡ naming NOT-FULL (missing p k W v)
-    unfolding reasonOf
-    reason-missing = cond-false (full p k W v) f _ _
-
-    pub lowest-missing : lowestOwns p k W v ≡ replicate 8 0
-    unfolding lowestOwns
-    lowest-missing = ap (λ (t : List ℕ). over t (replicate 8 0)) (cond-false (elca p k W v) no-elca _ _) ∙ over-nil (replicate 8 0)
-
-  -- A full node is listed where no word's own count is 0.
-  module _ (f : full p k W v ≡ true) where
-    pub elca-unowned : elca p k W v ≡ not (ltb (unowned p k W v) k)
-    unfolding elca unowned
-    elca-unowned = ap (λ (b : Bool). b && everyBelow k (λ j. leb 1 (ownCount p k W v j))) f ∙ every-first k (λ j. leb 1 (ownCount p k W v j))
-
-    abbrev stop : Bool
-    stop = ltb (unowned p k W v) k
-
-    turned : {A : Type 0} (b : Bool) (x y : A) → cond (not b) x y ≡ cond b y x
-    turned true x y = refl
-    turned false x y = refl
-
-    pub reason-full : reasonOf p k W v ≡ cond stop (naming NOT-LISTED (unowned p k W v)) (naming LISTED 0)
-    unfolding reasonOf
-    reason-full = cond-true (full p k W v) f _ _ ∙ ap (λ (b : Bool). cond b (naming LISTED 0) (naming NOT-LISTED (unowned p k W v))) elca-unowned ∙ turned stop _ _
-
-    pub lowest-full : lowestOwns p k W v ≡ over (cond stop [] (tabulate k (lowestOwn p k W v))) (replicate 8 0)
-    unfolding lowestOwns
-    lowest-full =
-        ap (λ (t : List ℕ). over t (replicate 8 0)) (ap (λ (b : Bool). cond b (tabulate k (lowestOwn p k W v)) []) elca-unowned ∙ turned stop _ _)
-
--- ---- the code's way
 module _ (p ends occ cs : List ℕ) (v : ℕ) (fl : List ℕ) (pre : LookPre p ends occ cs v fl) where
   abbrev n : ℕ
   n = length p
@@ -108,7 +66,7 @@ module _ (p ends occ cs : List ℕ) (v : ℕ) (fl : List ℕ) (pre : LookPre p e
     pub look-missing : j < k → Looked p ends occ v fl (record { reason = NotFull j; occurrences = replicate 8 0 }) fl
     look-missing l = record {
       reason = ap (naming NOT-FULL) (e ∙ missing-by v (pre .node)) ∙ sym (reason-missing p k W v none);
-      occurrences = sym (lowest-missing p k W v none);
+      occurrences = sym (lowest-none p k W v (missing-elca p k W v none));
       row = refl;
     }
       where
@@ -180,16 +138,6 @@ module _ (p ends occ cs : List ℕ) (v : ℕ) (fl : List ℕ) (pre : LookPre p e
         tabulate-ext k _ _
         (λ j l. lowest-by j l ∙ firstOf-any mine n 0 (W j) (counted j ∙ first-below k (λ i. leb 1 (ownCount p k W v i)) j (omega arith)))
 
-    found-rows : over (cond (stops ends occ fl₁) [] (tabulate k (lowestIn ends occ fl₁))) (replicate 8 0) ≡ lowestOwns p k W v
-    found-rows =
-        ap (λ (t : List ℕ). over t (replicate 8 0))
-        (ap (λ (b : Bool). cond b [] (tabulate k (lowestIn ends occ fl₁))) stops-is
-        ∙ ⊎-elim
-        (λ (h : unowned p k W v < k). rw (lt-ltb (unowned p k W v) k h) refl)
-        (λ (h : k ≤ unowned p k W v). rw (le-ltb (unowned p k W v) k h) (row-is h))
-        (less-or (unowned p k W v) k))
-        ∙ sym (lowest-full p k W v f)
-
     -- ---- the row is cleared
     pub span-in : (v ≤ end) × (end ≤ length fl₁)
     span-in = (omega (arith, g .end, span-start p (pre .preorder) v (pre .node)), omega (arith, g .end, last-below p (pre .preorder) v (pre .node), flags-long))
@@ -236,8 +184,27 @@ module _ (p ends occ cs : List ℕ) (v : ℕ) (fl : List ℕ) (pre : LookPre p e
           cleared-at x l ∙ sym (ap (λ (t : List ℕ). getD t x 0) (pre .zeros) ∙ getD-replicate n x 0 0 l))
 
       pub looked : (r : Why) → Finds ends occ fl₁ r → Looked p ends occ v fl r (putMid v wide fl₁ z)
-      looked r h = record {
-        reason = h .reason ∙ ap₂ (λ (b : Bool) (j : ℕ). cond b (naming NOT-LISTED j) (naming LISTED 0)) stops-is unowned-by ∙ sym (reason-full p k W v f);
-        occurrences = h .occurrences ∙ found-rows;
-        row = row-cleared;
-      }
+      looked r h = ⊎-elim unlisted listed (less-or (unowned p k W v) k)
+        where
+          unlisted : unowned p k W v < k → Looked p ends occ v fl r (putMid v wide fl₁ z)
+          unlisted a =
+              let e : elca p k W v ≡ false = elca-unowned p k W v f ∙ ap not (lt-ltb (unowned p k W v) k a) in
+              let t : stops ends occ fl₁ ≡ true = stops-is ∙ lt-ltb (unowned p k W v) k a in
+              record {
+                reason = h .reason ∙ cond-true (stops ends occ fl₁) t _ _ ∙ ap (naming NOT-LISTED) unowned-by ∙ sym (reason-unowned p k W v f e);
+                occurrences =
+                    h .occurrences ∙ ap (λ (x : List ℕ). over x (replicate 8 0)) (cond-true (stops ends occ fl₁) t _ _) ∙ over-nil (replicate 8 0)
+                    ∙ sym (lowest-none p k W v e);
+                row = row-cleared;
+              }
+
+          listed : k ≤ unowned p k W v → Looked p ends occ v fl r (putMid v wide fl₁ z)
+          listed a =
+              let e : elca p k W v ≡ true = elca-unowned p k W v f ∙ ap not (le-ltb (unowned p k W v) k a) in
+              let t : stops ends occ fl₁ ≡ false = stops-is ∙ le-ltb (unowned p k W v) k a in
+              record {
+                reason = h .reason ∙ cond-false (stops ends occ fl₁) t _ _ ∙ sym (reason-elca p k W v e);
+                occurrences =
+                    h .occurrences ∙ ap (λ (x : List ℕ). over x (replicate 8 0)) (cond-false (stops ends occ fl₁) t _ _ ∙ row-is a) ∙ sym (lowest-some p k W v e);
+                row = row-cleared;
+              }

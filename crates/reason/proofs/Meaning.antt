@@ -6,27 +6,27 @@
 --   lowest-unique     and no other 8 numbers are these
 -- Letters: p parents; k words, W their lists, which rise; v node, x y occurrences, j i words; t what is told, l the 8 occurrences; I index.
 use Prim.Native.Nat.{ℕ, _≤_, _<_}
-use mathlib.Core.Path.{_≡_, refl, sym, ap, _∙_, subst}
+use mathlib.Core.Path.{_≡_, sym, ap, _∙_, subst}
 use mathlib.Core.Logic.{_↔_, ⊎-elim}
 use mathlib.Core.List.{List}
-use mathlib.Core.Bool.{Bool, true, false, not, _&&_}
+use mathlib.Core.Bool.{true, false, not, _&&_}
 use native.Mathlib.Nat.{le-antisymm}
 use native.Mathlib.Omega.{arith}
 use lib.Dec.{eqb, ltb, leb}
-use borrow.Author.Tests.{ltb-true, lt-ltb, leb-true, leb-false, le-leb, lt-leb, eq-eqb, eqb-true}
+use borrow.Author.Tests.{lt-ltb, leb-true, leb-false, le-leb, lt-leb, eq-eqb, eqb-true}
 use lib.ListN.{length, getD, replicate, length-replicate, getD-replicate, List·getD-eq-default}
 use lib.Seq.{ext-getD}
 use Rattle.seq.specs.Below.{someBelow, tabulate}
 use Rattle.seq.specs.Lists.{someOf, EachBelow}
 use Rattle.seq.specs.Memory.{over}
 use Rattle.seq.specs.Plain.{Among}
-use Rattle.seq.proofs.Laws.Bools.{bool-cases, bool-false, bool-not-both, cond-true, cond-false, and-left, and-right, and-both}
+use Rattle.seq.proofs.Laws.Bools.{bool-cases, bool-false, bool-not-both, and-left, and-right, and-both}
 use Rattle.seq.proofs.Laws.Below.{Both, both-at, first-is, first-at, first-below}
 use Rattle.seq.proofs.Laws.Numbers.{less-or}
 use Rattle.seq.proofs.Laws.Gather.{length-tabulate, getD-tabulate}
 use Rattle.seq.proofs.Laws.Lists.{Entry, someOf-at, someOf-of, someOf-tally, firstOf-passes}
 use Rattle.seq.proofs.Laws.Members.{Rising, member-of, member-below, firstOf-member, firstOf-lowest}
-use Rattle.seq.proofs.Laws.Memory.{over-nil, length-over, over-front, over-rest}
+use Rattle.seq.proofs.Laws.Memory.{length-over, over-front, over-rest}
 use Rattle.tree.specs.Tree.{under, properly}
 use Rattle.tree.specs.Plain.{Down, Preorder}
 use Rattle.tree.proofs.Laws.Under.{under-plain, under-of-plain, preorder-down}
@@ -35,11 +35,11 @@ use Rattle.index.specs.Plain.{Right}
 use Rattle.answers.specs.Answers.{full, own, ownCount, elca}
 use Rattle.answers.specs.Plain.{Occurs, Elca}
 use Rattle.answers.proofs.Laws.Meaning.{ancestor-plain, occurs-plain, full-plain, own-plain, elca-plain}
-use Rattle.answers.proofs.Laws.Plain.{elca-full, elca-own}
+use Rattle.answers.proofs.Laws.Plain.{elca-own}
 use Rattle.answers.proofs.Laws.Counts.{lists-below}
 use Rattle.reason.specs.Reasons.{Naming, NOT-FULL, NOT-LISTED, LISTED, naming, missing, unowned, reasonOf, lowestOwn, lowestOwns}
 use Rattle.reason.specs.Plain.{Missing, Covers, Unowned, LowestOwn, Lowest, TrueOf, trueNotFull, trueNotListed, trueListed, OneReason}
-use Rattle.reason.proofs.Looking.{full-missing, reason-missing, elca-unowned, reason-full}
+use Rattle.reason.proofs.Laws.Reasons.{full-missing, missing-less, reason-missing, elca-unowned, unowned-less, reason-unowned, reason-elca, lowest-some, listed-elca}
 
 -- ---- entries of a list
 on-list : (l : List ℕ) (x : ℕ) → (someOf (eqb x) l ≡ true) ↔ Among (length l) l x
@@ -48,34 +48,6 @@ on-list l x = (
       record { at = r .at; within = r .below; is = sym (eqb-true x (getD l (r .at) 0) (r .passes)) },
   λ r. someOf-of (eqb x) l (r .at) (r .within) (eq-eqb x (getD l (r .at) 0) (sym (r .is))),
 )
-
--- ---- by the case
-module _ (p : List ℕ) (k : ℕ) (W : ℕ → List ℕ) (v : ℕ) where
-  -- Where the reason is not `listed`, v is no ELCA.
-  other : elca p k W v ≡ false → reasonOf p k W v .number ≡ LISTED → ⊥
-  unfolding reasonOf
-  other e q =
-      ⊎-elim
-      (λ f. two-three (sym (ap (λ (t : Naming). t .number) (cond-true (full p k W v) f _ _ ∙ cond-false (elca p k W v) e _ _)) ∙ q))
-      (λ f. one-three (sym (ap (λ (t : Naming). t .number) (cond-false (full p k W v) f _ _)) ∙ q))
-      (bool-cases (full p k W v))
-    where
-      two-three : NOT-LISTED ≡ LISTED → ⊥
-      two-three z = omega arith
-
-      one-three : NOT-FULL ≡ LISTED → ⊥
-      one-three z = omega arith
-
-  pub listed-elca : reasonOf p k W v .number ≡ LISTED → elca p k W v ≡ true
-  listed-elca q = ⊎-elim (λ e. e) (λ e. absurd (other e q)) (bool-cases (elca p k W v))
-
-  pub unlisted-zeros : (reasonOf p k W v .number ≡ LISTED → ⊥) → lowestOwns p k W v ≡ replicate 8 0
-  unfolding reasonOf lowestOwns
-  unlisted-zeros ne =
-      ⊎-elim
-      (λ e. absurd (ne (ap (λ (t : Naming). t .number) (cond-true (full p k W v) (elca-full p k W v e) _ _ ∙ cond-true (elca p k W v) e _ _))))
-      (λ e. ap (λ (t : List ℕ). over t (replicate 8 0)) (cond-false (elca p k W v) e _ _) ∙ over-nil (replicate 8 0))
-      (bool-cases (elca p k W v))
 
 module _ (p : List ℕ) (o : Preorder p (length p)) (k : ℕ) (W : ℕ → List ℕ) (b : (j : ℕ) → j < k → EachBelow (length p) (W j)) (v : ℕ) where
   d : Down p (length p)
@@ -89,17 +61,10 @@ module _ (p : List ℕ) (o : Preorder p (length p)) (k : ℕ) (W : ℕ → List 
   )
 
   -- ---- not full
-  missing-less : full p k W v ≡ false → missing p k W v < k
-  missing-less f = ltb-true (missing p k W v) k (sym (double (ltb (missing p k W v) k)) ∙ ap not (sym (full-missing p k W v) ∙ f))
-    where
-      double : (c : Bool) → not (not c) ≡ c
-      double true = refl
-      double false = refl
-
   missing-holds : full p k W v ≡ false → Missing p k W v (missing p k W v)
   unfolding missing
   missing-holds f =
-      let l : missing p k W v < k = missing-less f in
+      let l : missing p k W v < k = missing-less p k W v f in
       record {
         word = l;
         none = λ h. bool-not-both (someOf (under p v) (W (missing p k W v))) (occurs (missing p k W v) l .1 h) (first-at k (λ j. someOf (under p v) (W j)) l);
@@ -119,14 +84,6 @@ module _ (p : List ℕ) (o : Preorder p (length p)) (k : ℕ) (W : ℕ → List 
       none = full-missing p k W v ∙ ap not (lt-ltb (missing p k W v) k (omega (arith, m .word, first)))
 
   -- ---- full, but not listed
-  module _ (f : full p k W v ≡ true) where
-    unowned-less : elca p k W v ≡ false → unowned p k W v < k
-    unowned-less e = ltb-true (unowned p k W v) k (sym (double (ltb (unowned p k W v) k)) ∙ ap not (sym (elca-unowned p k W v f) ∙ e))
-      where
-        double : (c : Bool) → not (not c) ≡ c
-        double true = refl
-        double false = refl
-
   -- An occurrence under v that is not v's own is under a full proper descendant of v.
   covers : (x : ℕ) → x < length p → under p v x ≡ true → own p k W v x ≡ false → Covers p k W v x
   unfolding own
@@ -154,7 +111,7 @@ module _ (p : List ℕ) (o : Preorder p (length p)) (k : ℕ) (W : ℕ → List 
   unowned-holds : full p k W v ≡ true → elca p k W v ≡ false → Unowned p k W v (unowned p k W v)
   unfolding unowned
   unowned-holds f e =
-      let l : unowned p k W v < k = unowned-less f e in
+      let l : unowned p k W v < k = unowned-less p k W v f e in
       let z : ownCount p k W v (unowned p k W v) ≡ 0 =
       omega (arith, leb-false 1 (ownCount p k W v (unowned p k W v)) (first-at k (λ j. leb 1 (ownCount p k W v j)) l)) in
       record {
@@ -170,7 +127,7 @@ module _ (p : List ℕ) (o : Preorder p (length p)) (k : ℕ) (W : ℕ → List 
 
   unowned-only : (j : ℕ) → Unowned p k W v j → naming NOT-LISTED j ≡ reasonOf p k W v
   unfolding unowned
-  unowned-only j u = ap (naming NOT-LISTED) first ∙ sym (reason-full p k W v is-full ∙ cond-true _ (lt-ltb (unowned p k W v) k (omega (arith, u .word, first))) _ _)
+  unowned-only j u = ap (naming NOT-LISTED) first ∙ sym (reason-unowned p k W v is-full none)
     where
       is-full : full p k W v ≡ true
       is-full = full-plain p d k W b v .1 (u .full)
@@ -180,22 +137,16 @@ module _ (p : List ℕ) (o : Preorder p (length p)) (k : ℕ) (W : ℕ → List 
           first-is k (λ i. leb 1 (ownCount p k W v i)) j (omega (arith, u .word)) (λ i h. le-leb 1 (ownCount p k W v i) (u .earlier i h))
           (λ h. lt-leb 1 (ownCount p k W v j) (omega (arith, u .none)))
 
-  -- ---- listed
-  listed-is : elca p k W v ≡ true → reasonOf p k W v ≡ naming LISTED 0
-  unfolding reasonOf
-  listed-is e = cond-true (full p k W v) (elca-full p k W v e) _ _ ∙ cond-true (elca p k W v) e _ _
-
-  not-listed-is : full p k W v ≡ true → elca p k W v ≡ false → reasonOf p k W v ≡ naming NOT-LISTED (unowned p k W v)
-  unfolding reasonOf
-  not-listed-is f e = cond-true (full p k W v) f _ _ ∙ cond-false (elca p k W v) e _ _
+      none : elca p k W v ≡ false
+      none = elca-unowned p k W v is-full ∙ ap not (lt-ltb (unowned p k W v) k (omega (arith, u .word, first)))
 
   -- ---- which of them
   pub reason-holds : TrueOf p k W v (reasonOf p k W v)
   reason-holds =
       ⊎-elim
       (λ f. ⊎-elim
-      (λ e. subst (TrueOf p k W v) (sym (listed-is e)) (trueListed (elca-plain p d k W b v .0 e)))
-      (λ e. subst (TrueOf p k W v) (sym (not-listed-is f e)) (trueNotListed (unowned-holds f e)))
+      (λ e. subst (TrueOf p k W v) (sym (reason-elca p k W v e)) (trueListed (elca-plain p d k W b v .0 e)))
+      (λ e. subst (TrueOf p k W v) (sym (reason-unowned p k W v f e)) (trueNotListed (unowned-holds f e)))
       (bool-cases (elca p k W v)))
       (λ f. subst (TrueOf p k W v) (sym (reason-missing p k W v f)) (trueNotFull (missing-holds f)))
       (bool-cases (full p k W v))
@@ -203,13 +154,13 @@ module _ (p : List ℕ) (o : Preorder p (length p)) (k : ℕ) (W : ℕ → List 
   pub reason-only : (t : Naming) → TrueOf p k W v t → t ≡ reasonOf p k W v
   reason-only t (trueNotFull {j} m) = missing-only j m
   reason-only t (trueNotListed {j} u) = unowned-only j u
-  reason-only t (trueListed e) = sym (listed-is (elca-plain p d k W b v .1 e))
+  reason-only t (trueListed e) = sym (reason-elca p k W v (elca-plain p d k W b v .1 e))
 
   -- The reason is `listed` exactly where v is an ELCA.
   pub reason-listed : (reasonOf p k W v .number ≡ LISTED) ↔ Elca p k W v
   reason-listed = (
     λ q. elca-plain p d k W b v .0 (listed-elca p k W v q),
-    λ h. ap (λ (t : Naming). t .number) (listed-is (elca-plain p d k W b v .1 h)),
+    λ h. ap (λ (t : Naming). t .number) (reason-elca p k W v (elca-plain p d k W b v .1 h)),
   )
 
   -- ---- the occurrences of a listed node
@@ -228,12 +179,8 @@ module _ (p : List ℕ) (o : Preorder p (length p)) (k : ℕ) (W : ℕ → List 
               firstOf-lowest (own p k W v) 0 (W j) (rises j l) y my (own-plain p d k W b v y (member-below (length p) (W j) (b j l) y my) .1 q);
         }
 
-    rows-are : lowestOwns p k W v ≡ over (tabulate k (lowestOwn p k W v)) (replicate 8 0)
-    unfolding lowestOwns
-    rows-are = ap (λ (t : List ℕ). over t (replicate 8 0)) (cond-true (elca p k W v) e _ _)
-
     pub lowest-holds : k ≤ 8 → Lowest p k W v (lowestOwns p k W v)
-    lowest-holds few = rw rows-are (record {
+    lowest-holds few = rw (lowest-some p k W v e) (record {
       long = length-over new old (omega (arith, length-tabulate k (lowestOwn p k W v), length-replicate {A = ℕ} 8 0)) ∙ length-replicate {A = ℕ} 8 0;
       each = λ j l. rw (over-front new old j (omega (arith, length-tabulate k (lowestOwn p k W v))), getD-tabulate k (lowestOwn p k W v) j 0 l) (lowest-own j l);
       rest = λ j l. over-rest new old j (omega (arith, length-tabulate k (lowestOwn p k W v))) ∙ zero-at j;

@@ -22,7 +22,8 @@ use Rattle.reason.specs.declared.Numbers.{Numbers}
 use Rattle.reason.specs.Reasons.{Naming, LISTED, naming, reasonOf, lowestOwns}
 use Rattle.reason.specs.Contracts.{reasonReply, explains, toldAfter, lowestAfter, withNumbers, ExplainedInNumbers}
 use Rattle.reason.specs.Plain.{OneReason, Lowest}
-use Rattle.reason.proofs.Meaning.{one-reason, lowest-right, lowest-unique, listed-elca, unlisted-zeros}
+use Rattle.reason.proofs.Laws.Reasons.{listed-elca, unlisted-zeros}
+use Rattle.reason.proofs.Meaning.{one-reason, lowest-right, lowest-unique}
 use Rattle.demands.specs.Calls.{WorkLeft}
 use Rattle.demands.proofs.Leaving.{work-left, work-unique}
 use Rattle.reason_laws.specs.Calls.{ReasonDemands}
