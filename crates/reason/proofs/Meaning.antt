@@ -2,6 +2,7 @@
 --   reason-holds      the reason is true
 --   reason-only       no other is: exactly one of the three cases holds, with one word
 --   one-reason        both, of every node of a right index
+--   reason-listed     its number is `LISTED` exactly at an ELCA
 --   lowest-holds      the occurrences of a listed node; lowest-right of a right index
 --   lowest-unique     and no other 8 numbers are these
 -- Letters: p parents; k words, W their lists, which rise; v node, x y occurrences, j i words; t what is told, l the 8 occurrences; I index.
