@@ -9,7 +9,7 @@ lib: target/lib/libsonquilate.a target/lib/sonquilate.h target/lib/sonquilate.pc
 target/lib/libsonquilate.a: crates.txt $(shell find crates)
 	rt staticlib sonquilate
 	mkdir -p target/lib
-# each function at the begin of a line of the cache: else where a linker happens to put it decides up to a third of a call's time
+# each function at the begin of a line of the cache: where a linker happens to put it otherwise, a call takes up to a fifth longer
 ifeq ($(shell uname -m),x86_64)
 	host/need objcopy
 	objcopy --set-section-alignment '.text.*=64' target/staticlib/libsonquilate.a $@

@@ -1,5 +1,6 @@
 //! 01, "At the edges", and the refusals one by one.
 
+#[macro_use]
 mod common;
 
 use common::{chain, lawful};
@@ -140,23 +141,7 @@ fn count_place_goes_word_by_word() {
 #[test]
 fn size_reasons() {
     let base = || lawful(Search::Valid, &flat(4), &[1; 4], &[&[1], &[2]], &[&[3]]);
-    let all_sizes: Vec<fn(&mut Call)> = vec![
-        |call| {
-            call.parents.pop();
-        },
-        |call| call.parents.push(0),
-        |call| {
-            call.tags.pop();
-        },
-        |call| call.tags.push(1),
-        |call| {
-            call.ends.pop();
-        },
-        |call| call.ends.push(3),
-        |call| {
-            call.counts.pop();
-        },
-        |call| call.counts.push(0),
+    let others: Vec<fn(&mut Call)> = vec![
         |call| call.work.truncate(5 * 4 - 1),
         |call| (call.p, call.q) = (0, 3),
         |call| (call.p, call.q) = (2, 7),
@@ -172,7 +157,8 @@ fn size_reasons() {
             call.counts.clear();
         },
     ];
-    for spoil in all_sizes {
+    let lengths = other_lengths!(Call: parents, tags, ends, counts);
+    for spoil in others.into_iter().chain(lengths) {
         let mut call = base();
         spoil(&mut call);
         // SIZE comes before every other refusal.

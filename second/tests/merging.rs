@@ -1,6 +1,7 @@
 //! The searches without counts by name: 01's cases, the edges, and each reply
 //! with what it leaves in the stack.
 
+#[macro_use]
 mod common;
 
 use common::{chain, lawful, A, PARENTS, TAGS, U, Z};
@@ -192,19 +193,7 @@ fn sizes_of_the_stack() {
 
 #[test]
 fn other_reasons_for_size() {
-    let reasons: Vec<fn(&mut Merging)> = vec![
-        |call| {
-            call.parents.pop();
-        },
-        |call| call.parents.push(0),
-        |call| {
-            call.tags.pop();
-        },
-        |call| call.tags.push(1),
-        |call| {
-            call.ends.pop();
-        },
-        |call| call.ends.push(5),
+    let others: Vec<fn(&mut Merging)> = vec![
         |call| call.p = 0,
         |call| call.p = 1,
         |call| call.p = 3,
@@ -218,7 +207,8 @@ fn other_reasons_for_size() {
         |call| (call.parents, call.tags) = (vec![], vec![]),
     ];
     for merge in Merge::ALL {
-        for reason in &reasons {
+        let lengths = other_lengths!(Merging: parents, tags, ends);
+        for reason in others.iter().chain(&lengths) {
             let mut call = scheduled(merge, &[A, Z]);
             reason(&mut call);
             // SIZE comes before every other refusal.

@@ -1,6 +1,7 @@
 //! A node's reason by name: 01's schedule, the edges, and each reply with what
 //! it leaves in work.
 
+#[macro_use]
 mod common;
 
 use common::{chain, lawful, A, PARENTS, TAGS, U, Z};
@@ -252,23 +253,7 @@ fn entries_past_the_words_are_zero() {
 
 #[test]
 fn reasons_for_size() {
-    let reasons: Vec<fn(&mut Reasoning)> = vec![
-        |call| {
-            call.parents.pop();
-        },
-        |call| call.parents.push(0),
-        |call| {
-            call.tags.pop();
-        },
-        |call| call.tags.push(1),
-        |call| {
-            call.ends.pop();
-        },
-        |call| call.ends.push(5),
-        |call| {
-            call.counts.pop();
-        },
-        |call| call.counts.push(0),
+    let others: Vec<fn(&mut Reasoning)> = vec![
         |call| call.work.truncate(4 * 18 - 1),
         |call| call.work.clear(),
         |call| call.p = 0,
@@ -280,7 +265,8 @@ fn reasons_for_size() {
         |call| (call.p, call.q) = (3, u32::MAX),
         |call| (call.parents, call.tags, call.counts) = (vec![], vec![], vec![]),
     ];
-    for reason in reasons {
+    let lengths = other_lengths!(Reasoning: parents, tags, ends, counts);
+    for reason in others.into_iter().chain(lengths) {
         for node in [0, 17, 18, u32::MAX] {
             let mut call = scheduled(&[A, Z], node);
             reason(&mut call);

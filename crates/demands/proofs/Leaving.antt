@@ -4,14 +4,12 @@
 -- Letters: I index; w work, o buffer as lent, o′ as it is; r reply, m entries written.
 use Prim.Native.Nat.{ℕ, _≤_, _<_}
 use mathlib.Core.Path.{_≡_, sym, ap, _∙_}
-use mathlib.Core.Logic.{_↔_, _⊎_, inl, inr, ⊎-elim}
+use mathlib.Core.Logic.{_↔_, ⊎-elim}
 use mathlib.Core.List.{List}
 use mathlib.Core.Bool.{true}
 use native.Mathlib.Omega.{arith}
-use lib.Dec.{eqb}
-use borrow.Author.Tests.{eqb-true, eqb-false}
 use lib.ListN.{length, getD}
-use Rattle.seq.proofs.Laws.Bools.{bool-cases, bool-not-both}
+use Rattle.seq.proofs.Laws.Bools.{bool-cases, bool-not-both, equal-or}
 use Rattle.seq.proofs.Laws.Memory.{over-front}
 use Rattle.seq.proofs.Laws.Plain.{stays-over, stays-unique}
 use Rattle.index.specs.declared.Reply.{Reply}
@@ -59,7 +57,4 @@ module _ (r : Reply) (m : ℕ) (new o : List ℕ) (total : r .refusal ≡ accept
   pub buffer-unique : (o′ : List ℕ) → BufferLeft r m o o′ → (r .refusal ≡ accepted → (i : ℕ) → i < m → getD o′ i 0 ≡ getD new i 0) → o′ ≡ keptOr r new o
   buffer-unique o′ a front =
       ⊎-elim (λ q. stays-unique m o o′ (keptOr r new o) (a .rest q) (buffer-left .rest q) (λ i l. front q i l ∙ sym (buffer-at q i l)))
-      (λ q. a .kept q ∙ sym (kept-refused r new o q)) (accepted-or r)
-    where
-      accepted-or : (r : Reply) → (r .refusal ≡ accepted) ⊎ (r .refusal ≡ accepted → ⊥)
-      accepted-or r = ⊎-elim (λ q. inl (eqb-true (r .refusal) accepted q)) (λ q. inr (eqb-false (r .refusal) accepted q)) (bool-cases (eqb (r .refusal) accepted))
+      (λ q. a .kept q ∙ sym (kept-refused r new o q)) (equal-or (r .refusal) accepted)

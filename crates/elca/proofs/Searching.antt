@@ -13,7 +13,7 @@ use lib.Dec.{eqb, ltb, leb}
 use lib.ListN.{length, getD, take, drop, replicate, length-take, length-drop, length-replicate, getD-replicate, List·getD-append}
 use lib.Seq.{length-take-le, getD-take, getD-append-add}
 use Rattle.seq.specs.Below.{tabulate, listed}
-use Rattle.seq.proofs.Laws.Bools.{bool-cases, and-left, and-right}
+use Rattle.seq.proofs.Laws.Bools.{bool-cases, flag-some, and-left, and-right}
 use Rattle.seq.proofs.Laws.Below.{every-ext}
 use Rattle.seq.proofs.Laws.Sums.{sum-ext}
 use Rattle.seq.proofs.Laws.Gather.{length-tabulate, tabulate-ext, gather-ext, length-gather}
@@ -130,11 +130,7 @@ module _ (p cs : List ℕ) (k : ℕ) (w : List ℕ) (pre : SearchPre p cs k w) w
     }
 
     flag-full : (c : ℕ) → c < n → isFlagged n k w₁ c ≡ fullBy cs n k c
-    flag-full c l = ap (λ (x : ℕ). not (eqb x 0)) (rows₁ .flags c l) ∙ some-bit (fullBy cs n k c)
-      where
-        some-bit : (b : Bool) → not (eqb (cond b 1 0) 0) ≡ b
-        some-bit true = refl
-        some-bit false = refl
+    flag-full c l = ap (λ (x : ℕ). not (eqb x 0)) (rows₁ .flags c l) ∙ flag-some (fullBy cs n k c)
 
     held-full : (v j : ℕ) → heldBy p cs (isFlagged n k w₁) v j ≡ heldFull p cs k v j
     unfolding heldBy heldFull

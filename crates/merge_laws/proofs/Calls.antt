@@ -11,6 +11,7 @@ use mathlib.Core.Logic.{_↔_, ⊎-elim}
 use mathlib.Core.List.{List}
 use native.Mathlib.Omega.{arith}
 use lib.ListN.{length, replicate, length-replicate}
+use Rattle.seq.proofs.Laws.Bools.{equal-or}
 use Rattle.index.specs.declared.Reply.{Reply}
 use Rattle.index.specs.Index.{Index}
 use Rattle.index.specs.Replies.{SIZE, COUNT, refused, room, workAfter, keptOr}
@@ -28,7 +29,7 @@ use Rattle.depot.specs.Plain.{DepotSized}
 use Rattle.merge_laws.specs.Calls.{MergeReplied, MergeElcaDemands, MergeSlcaDemands}
 use Rattle.depot.proofs.Laws.Checks.{sized-no, checked-size, sized-any}
 use Rattle.merge_laws.proofs.Counts.{counts-right, righted-sized, merge-elca-first, merge-slca-first}
-use Rattle.merge_laws.proofs.Leaving.{stack-left, size-or, stack-unique}
+use Rattle.merge_laws.proofs.Leaving.{stack-left, stack-unique}
 
 -- ---- both searches
 -- Work that is just long enough for a search with counts.
@@ -69,7 +70,7 @@ module _ (I : Index) (ys : List Entry) (r b : Reply) (e : r ≡ depotChecked I (
 module _ (I : Index) (ys : List Entry) (r r′ : Reply) (ys′ ys″ : List Entry) (a : MergeReplied I ys r ys′) (b : MergeReplied I ys r′ ys″) where
   both-or-neither : (Same : Type 0) → (r .refusal ≡ SIZE → r′ .refusal ≡ SIZE → Same) → ((r .refusal ≡ SIZE → ⊥) → (r′ .refusal ≡ SIZE → ⊥) → Same) → Same
   both-or-neither Same both neither =
-      ⊎-elim (λ q. both q (b .size .1 (a .size .0 q))) (λ q. neither q (λ q′. q (a .size .1 (b .size .0 q′)))) (size-or r)
+      ⊎-elim (λ q. both q (b .size .1 (a .size .0 q))) (λ q. neither q (λ q′. q (a .size .1 (b .size .0 q′)))) (equal-or (r .refusal) SIZE)
 
   same-stack : r ≡ r′ → ys′ ≡ ys″
   same-stack e = stack-unique r ys ys′ ys″ (a .stack) (rw e (b .stack))

@@ -1,17 +1,14 @@
 -- What a search without counts leaves in its stack. Assumes nothing.
 --   stack-left     the stack as the definitions have it is as demanded
 --   stack-unique   two contents that are as demanded are one
---   size-or        a reply is SIZE or it is not
 -- Letters: I index; ys stack as lent, ys′, ys″ as it is; r reply; i entry.
 use mathlib.Core.Path.{_≡_, sym, ap, _∙_}
-use mathlib.Core.Logic.{_↔_, _⊎_, inl, inr, ⊎-elim}
+use mathlib.Core.Logic.{_↔_, ⊎-elim}
 use mathlib.Core.List.{List}
 use mathlib.Core.Bool.{true, false}
-use lib.Dec.{eqb}
-use borrow.Author.Tests.{eqb-true, eqb-false}
 use lib.ListN.{length, getD}
 use lib.Seq.{ext-getD}
-use Rattle.seq.proofs.Laws.Bools.{bool-cases, bool-not-both}
+use Rattle.seq.proofs.Laws.Bools.{bool-cases, bool-not-both, equal-or}
 use Rattle.seq.proofs.Laws.Numbers.{less-or}
 use Rattle.index.specs.declared.Reply.{Reply}
 use Rattle.index.specs.Index.{Index}
@@ -51,11 +48,8 @@ module _ (I : Index) (ys : List Entry) (r : Reply) (size : (r .refusal ≡ SIZE)
   }
 
 -- ---- no other content
-pub size-or : (r : Reply) → (r .refusal ≡ SIZE) ⊎ (r .refusal ≡ SIZE → ⊥)
-size-or r = ⊎-elim (λ q. inl (eqb-true (r .refusal) SIZE q)) (λ q. inr (eqb-false (r .refusal) SIZE q)) (bool-cases (eqb (r .refusal) SIZE))
-
 pub stack-unique : (r : Reply) (ys ys′ ys″ : List Entry) → StackLeft r ys ys′ → StackLeft r ys ys″ → ys′ ≡ ys″
 stack-unique r ys ys′ ys″ a b =
     ⊎-elim (λ q. a .untouched q ∙ sym (b .untouched q))
     (λ q. ext-getD blank ys′ ys″ (a .long q ∙ sym (b .long q)) (λ i _.
-    ⊎-elim (λ l. a .blanks q i l ∙ sym (b .blanks q i l)) (λ l. a .rest q i l ∙ sym (b .rest q i l)) (less-or i 64))) (size-or r)
+    ⊎-elim (λ l. a .blanks q i l ∙ sym (b .blanks q i l)) (λ l. a .rest q i l ∙ sym (b .rest q i l)) (less-or i 64))) (equal-or (r .refusal) SIZE)

@@ -1,16 +1,17 @@
 -- The flags of a node's own, from the node to the last under it: what the loop knows before node u, and how a turn keeps it. Assumes nothing.
 -- Letters: p parents, f the test for full nodes; v node, u the node at hand, x node; fl flags.
 use Prim.Native.Nat.{ℕ, zero, suc, _+_, _≤_, _<_}
-use mathlib.Core.Path.{_≡_, refl, sym, ap, _∙_}
+use mathlib.Core.Path.{_≡_, sym, ap, _∙_}
 use mathlib.Core.Logic.{⊎-elim}
 use mathlib.Core.List.{List}
-use mathlib.Core.Bool.{Bool, true, false, not, cond, _&&_}
+use mathlib.Core.Bool.{Bool, true, not, cond, _&&_}
 use native.Mathlib.Nat.{not-suc-le-zero, not-le-of-lt}
 use native.Mathlib.Omega.{arith}
 use lib.Dec.{eqb}
 use lib.ListN.{length, getD, set, replicate, length-set, length-replicate, getD-replicate}
 use lib.Seq.{getD-set-other, ext-getD}
 use Rattle.seq.specs.Below.{tabulate}
+use Rattle.seq.proofs.Laws.Bools.{flag-some}
 use Rattle.seq.proofs.Laws.Numbers.{less-or}
 use Rattle.seq.proofs.Laws.Gather.{length-tabulate, getD-tabulate}
 use Rattle.seq.proofs.Laws.Loops.{filled-more}
@@ -100,14 +101,10 @@ module _ (p : List ℕ) (f : ℕ → Bool) (v : ℕ) (o : Preorder p (length p))
         in-it : under p v u ≡ true
         in-it = up-under u (s .after) h (s .inside) q
 
-        some-bit : (b : Bool) → not (eqb (bit b) 0) ≡ b
-        some-bit true = refl
-        some-bit false = refl
-
         by-parent : bit (not (eqb (getD fl (parent p u) 0) 0) && not (f u)) ≡ bit (ownIf p f v (parent p u) && not (f u))
         by-parent =
             ap (λ (b : Bool). bit (b && not (f u)))
-            (ap (λ (z : ℕ). not (eqb z 0)) (s .done (parent p u) (parent-before u (s .after) h)) ∙ some-bit (ownIf p f v (parent p u)))
+            (ap (λ (z : ℕ). not (eqb z 0)) (s .done (parent p u) (parent-before u (s .after) h)) ∙ flag-some (ownIf p f v (parent p u)))
 
     -- The loop ends behind the last node under v.
     pub flagging-out : u < length p → parent p u < v → u ≡ suc (lastUnder p v)

@@ -19,7 +19,7 @@ use lib.Seq.{ext-getD, length-take-le}
 use Rattle.seq.specs.Below.{tabulate}
 use Rattle.seq.specs.Lists.{someOf, firstOf, EachBelow}
 use Rattle.seq.specs.Memory.{over}
-use Rattle.seq.proofs.Laws.Bools.{bool-cases, cond-true, cond-false}
+use Rattle.seq.proofs.Laws.Bools.{bool-cases, flag-some, cond-true, cond-false}
 use Rattle.seq.proofs.Laws.Below.{first-ext, first-below}
 use Rattle.seq.proofs.Laws.Numbers.{less-or}
 use Rattle.seq.proofs.Laws.Gather.{length-tabulate, getD-tabulate, tabulate-ext}
@@ -106,11 +106,7 @@ module _ (p ends occ cs : List ℕ) (v : ℕ) (fl : List ℕ) (pre : LookPre p e
     unfolding lowestBy
     lowest-by j l =
         ap (λ (z : ℕ). firstOf (λ x. not (eqb (getD fl₁ x 0) 0)) z (W j)) flags-long
-        ∙ firstOf-ext _ mine n n (W j) (below j l) (λ x h. ap (λ (z : ℕ). not (eqb z 0)) (own-by x h) ∙ some-bit (mine x))
-      where
-        some-bit : (b : Bool) → not (eqb (bit b) 0) ≡ b
-        some-bit true = refl
-        some-bit false = refl
+        ∙ firstOf-ext _ mine n n (W j) (below j l) (λ x h. ap (λ (z : ℕ). not (eqb z 0)) (own-by x h) ∙ flag-some (mine x))
 
     -- A word has an own occurrence where its own count is not 0.
     has-one : (j : ℕ) → j < k → ltb (firstOf mine n (W j)) n ≡ someOf mine (W j)

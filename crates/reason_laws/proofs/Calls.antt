@@ -7,14 +7,13 @@
 -- Letters: I index, v node; w work as lent; e, e′ what calls give, w′, w″ what they leave in work.
 use Prim.Native.Nat.{ℕ}
 use mathlib.Core.Path.{_≡_, sym, ap, ap₂, _∙_, subst}
-use mathlib.Core.Logic.{_⊎_, inl, inr, ⊎-elim}
+use mathlib.Core.Logic.{⊎-elim}
 use mathlib.Core.List.{List}
 use mathlib.Core.Bool.{true, false}
 use native.Mathlib.Omega.{arith}
-use lib.Dec.{eqb}
-use borrow.Author.Tests.{eq-eqb, eqb-true, eqb-false, ne-eqb}
+use borrow.Author.Tests.{eq-eqb, ne-eqb}
 use lib.ListN.{replicate}
-use Rattle.seq.proofs.Laws.Bools.{bool-cases, cond-true, cond-false}
+use Rattle.seq.proofs.Laws.Bools.{equal-or, cond-true, cond-false}
 use Rattle.index.specs.declared.Reply.{Reply}
 use Rattle.index.specs.Index.{Index, wanted}
 use Rattle.index.specs.Replies.{accepted, workAfter}
@@ -27,7 +26,7 @@ use Rattle.reason.proofs.Meaning.{one-reason, lowest-right, lowest-unique}
 use Rattle.demands.specs.Calls.{WorkLeft}
 use Rattle.demands.proofs.Leaving.{work-left, work-unique}
 use Rattle.reason_laws.specs.Calls.{ReasonDemands}
-use Rattle.reason_laws.proofs.Replying.{accepted-or, reason-replied, replied-one, size-is, right, some-words, few}
+use Rattle.reason_laws.proofs.Replying.{reason-replied, replied-one, size-is, right, some-words, few}
 
 module _ (I : Index) (v : ℕ) (w : List ℕ) where
   yes : reasonReply I v w .refusal ≡ accepted → explains I v w ≡ true
@@ -76,7 +75,7 @@ module _ (I : Index) (v : ℕ) (w : List ℕ) where
     noLowest = λ ne. ⊎-elim
         (λ e. lowest-given e ∙ unlisted-zeros (I .parents) (I .positive) (wanted I) v (λ q. ne (ap (λ (t : Naming). t .number) (given-reason e) ∙ q)))
         (λ e. lowest-nothing e)
-        (accepted-or (reasonReply I v w));
+        (equal-or (reasonReply I v w .refusal) accepted);
     nothing = λ ne. (ap (λ (t : Naming). t .number) (given-nothing ne), ap (λ (t : Naming). t .word) (given-nothing ne));
   }
 
@@ -90,7 +89,7 @@ module _ (I : Index) (v : ℕ) (w : List ℕ) where
         ⊎-elim
         (λ q. sym (a .reason (ap (λ (x : Reply). x .refusal) same-reply ∙ q) .only given (outcome-demands .reason q .holds)))
         (λ q. ap₂ naming (zero q .0) (zero q .1) ∙ sym (given-nothing q))
-        (accepted-or (reasonReply I v w))
+        (equal-or (reasonReply I v w .refusal) accepted)
       where
         zero : (reasonReply I v w .refusal ≡ accepted → ⊥) → (e .reason ≡ 0) × (e .word ≡ 0)
         zero q = a .nothing (λ z. q (sym (ap (λ (x : Reply). x .refusal) same-reply) ∙ z))
@@ -106,9 +105,6 @@ module _ (I : Index) (v : ℕ) (w : List ℕ) where
         number-is : e .reason ≡ given .number
         number-is = ap (λ (t : Naming). t .number) same-told
 
-        listed-or : (n : ℕ) → (n ≡ LISTED) ⊎ (n ≡ LISTED → ⊥)
-        listed-or n = ⊎-elim (λ q. inl (eqb-true n LISTED q)) (λ q. inr (eqb-false n LISTED q)) (bool-cases (eqb n LISTED))
-
         zero-three : 0 ≡ LISTED → ⊥
         zero-three z = omega arith
 
@@ -119,9 +115,9 @@ module _ (I : Index) (v : ℕ) (w : List ℕ) where
             (λ l. lowest-unique (I .parents) (I .positive) (wanted I) v (e .occurrences) (lowestAfter I v w) (a .lowest (ap (λ (x : Reply). x .refusal) same-reply ∙ q) l)
             (outcome-demands .lowest q (sym number-is ∙ l)))
             (λ l. a .noLowest l ∙ sym (outcome-demands .noLowest (λ z. l (number-is ∙ z))))
-            (listed-or (e .reason)))
+            (equal-or (e .reason) LISTED))
             (λ q. a .noLowest (λ z. zero-three (sym (a .nothing (λ y. q (sym (ap (λ (x : Reply). x .refusal) same-reply) ∙ y)) .0) ∙ z)) ∙ sym (lowest-nothing q))
-            (accepted-or (reasonReply I v w))
+            (equal-or (reasonReply I v w .refusal) accepted)
 
   pub reason-demands : (e : Numbers) (w′ : List ℕ) → ExplainedInNumbers I v w e w′ → ReasonDemands I v w e w′
   reason-demands e w′ c = subst (λ (x : Numbers). ReasonDemands I v w x w′) (sym whole) (subst (ReasonDemands I v w outcome) (sym (c .work)) outcome-demands)

@@ -6,14 +6,14 @@
 -- Letters: I index, v node, w work as lent; r reply.
 use Prim.Native.Nat.{ℕ, _≤_, _<_}
 use mathlib.Core.Path.{_≡_, refl, sym, ap, _∙_}
-use mathlib.Core.Logic.{_↔_, _⊎_, inl, inr, ⊎-elim}
+use mathlib.Core.Logic.{_↔_, ⊎-elim}
 use mathlib.Core.List.{List}
 use mathlib.Core.Bool.{true, cond}
 use native.Mathlib.Omega.{arith}
-use lib.Dec.{eqb, ltb}
-use borrow.Author.Tests.{lt-ltb, le-ltb, eqb-true, eqb-false}
+use lib.Dec.{ltb}
+use borrow.Author.Tests.{lt-ltb, le-ltb}
 use lib.ListN.{length}
-use Rattle.seq.proofs.Laws.Bools.{bool-cases, cond-true, cond-false}
+use Rattle.seq.proofs.Laws.Bools.{equal-or, cond-true, cond-false}
 use Rattle.seq.proofs.Laws.Numbers.{less-or}
 use Rattle.index.specs.declared.Reply.{Reply}
 use Rattle.index.specs.Index.{Index, nodes}
@@ -26,9 +26,6 @@ use Rattle.reason.specs.Contracts.{NODE, reasonReply}
 use Rattle.demands.specs.Calls.{Replied}
 use Rattle.demands.proofs.Replying.{replied, replied-unique}
 use Rattle.reason_laws.specs.Calls.{ReasonReplied}
-
-pub accepted-or : (r : Reply) → (r .refusal ≡ accepted) ⊎ (r .refusal ≡ accepted → ⊥)
-accepted-or r = ⊎-elim (λ q. inl (eqb-true (r .refusal) accepted q)) (λ q. inr (eqb-false (r .refusal) accepted q)) (bool-cases (eqb (r .refusal) accepted))
 
 module _ (I : Index) (v : ℕ) (w : List ℕ) where
   -- ---- the reply
@@ -70,7 +67,7 @@ module _ (I : Index) (v : ℕ) (w : List ℕ) where
       ⊎-elim
       (λ e. ⊎-elim (λ l. a .accepts (same e) l ∙ sym (reply-accepts e l)) (λ l. a .node (same e) l ∙ sym (reply-node e l)) (less-or v (nodes I)))
       (λ ne. a .refuses (λ z. ne (ap (λ (x : Reply). x .refusal) (sym one) ∙ z)) ∙ one ∙ sym (reply-refused ne))
-      (accepted-or check)
+      (equal-or (check .refusal) accepted)
     where
       one : a .check ≡ check
       one = replied-unique 0 I (length w) (Unit {0}) true 0 (λ q. tt) (λ h. refl) (a .check) (a .checks)
@@ -84,7 +81,7 @@ module _ (I : Index) (v : ℕ) (w : List ℕ) where
     λ q. ⊎-elim
         (λ e. absurd (⊎-elim (λ l. accepted-size (number-of (reply-accepts e l) ∙ q)) (λ l. node-size (number-of (reply-node e l) ∙ q)) (less-or v (nodes I))))
         (λ ne. checks .size .0 (number-of (reply-refused ne) ∙ q))
-        (accepted-or check),
+        (equal-or (check .refusal) accepted),
     λ h. let e : check .refusal ≡ SIZE = checks .size .1 h in
         ap (λ (x : Reply). x .refusal) (reply-refused (λ z. omega (arith, e, z))) ∙ e,
   )
@@ -101,7 +98,7 @@ module _ (I : Index) (v : ℕ) (w : List ℕ) where
   -- ---- an accepted call
   module _ (e : reasonReply I v w .refusal ≡ accepted) where
     clean : Clean 0 I (length w)
-    clean = ⊎-elim accepts-clean (λ ne. absurd (ne (ap (λ (x : Reply). x .refusal) (sym (reply-refused ne)) ∙ e))) (accepted-or check)
+    clean = ⊎-elim accepts-clean (λ ne. absurd (ne (ap (λ (x : Reply). x .refusal) (sym (reply-refused ne)) ∙ e))) (equal-or (check .refusal) accepted)
 
     pub right : Right I
     right = clean-right 0 I (length w) clean

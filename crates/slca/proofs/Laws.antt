@@ -7,19 +7,19 @@
 --   marked-unique, slca-unique   no second outcome fits a contract
 use Prim.Native.Nat.{ℕ, suc, _+_, _*_, _≤_, _<_}
 use mathlib.Core.Path.{_≡_, refl, sym, ap, ap₂, _∙_, subst}
-use mathlib.Core.Logic.{_⊎_, inl, inr, ⊎-elim}
+use mathlib.Core.Logic.{⊎-elim}
 use mathlib.Core.List.{List, _++_}
 use mathlib.Core.Bool.{Bool, true, false, not, cond, _&&_}
 use native.Mathlib.Nat.{mul-le-mul-right, one-mul}
 use native.Mathlib.Omega.{arith}
 use lib.Dec.{eqb, ltb}
-use borrow.Author.Tests.{eq-eqb, eqb-true, eqb-false}
+use borrow.Author.Tests.{eq-eqb}
 use lib.ListN.{length, getD, take, drop, replicate}
 use lib.Seq.{length-front, length-take-le, getD-take, take-at}
 use Rattle.seq.specs.Below.{someBelow}
 use Rattle.seq.specs.Memory.{zeroed, over}
 use Rattle.seq.proofs.Laws.Memory.{zeroed-over, length-over}
-use Rattle.seq.proofs.Laws.Bools.{bool-cases}
+use Rattle.seq.proofs.Laws.Bools.{equal-or}
 use Rattle.seq.proofs.Laws.Numbers.{row-le}
 use Rattle.seq.proofs.Laws.Below.{every-ext, some-ext}
 use Rattle.seq.proofs.Laws.Gather.{length-tabulate, getD-tabulate, tabulate-ext}
@@ -223,10 +223,7 @@ module _ (I : Index) (w : List ℕ) (r : Reply) (w₁ : List ℕ) (m : Marked I 
       ∙ length-over (slcaMarks I) (workAfter 8 I w) (omega (arith, length-marks I, work-length 8 I w, nodes-in I (length w) (accepted-right I w e .0) (accepted-right I w e .1)))
       ∙ work-length 8 I w)
       (λ ne. ap length (kept-refused (checkReply I w) (slcaMarks I) (workAfter 8 I w) ne) ∙ work-length 8 I w)
-      (is-zero (checkReply I w .refusal))
-    where
-      is-zero : (x : ℕ) → (x ≡ accepted) ⊎ (x ≡ accepted → ⊥)
-      is-zero x = ⊎-elim (λ q. inl (eqb-true x 0 q)) (λ q. inr (eqb-false x 0 q)) (bool-cases (eqb x 0))
+      (equal-or (checkReply I w .refusal) accepted)
 
   module _ (ne : r .refusal ≡ accepted → ⊥) where
     pub marked-refuses : checkReply I w .refusal ≡ accepted → ⊥

@@ -54,6 +54,20 @@ pub fn come_back(cases: &[Case]) -> Vec<u8> {
     file
 }
 
+/// What makes a slice an entry shorter, and what makes it an entry longer, for
+/// each of these slices of a call.
+#[allow(unused_macros)]
+macro_rules! other_lengths {
+    ($call:ty: $($slice:ident),*) => {
+        [$(
+            (|call: &mut $call| {
+                call.$slice.pop();
+            }) as fn(&mut $call),
+            (|call: &mut $call| call.$slice.push(0)) as fn(&mut $call),
+        )*]
+    };
+}
+
 /// An undamaged call with right counts, long buffers and 7 in every entry.
 pub fn lawful(
     search: Search,

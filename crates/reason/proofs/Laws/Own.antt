@@ -33,10 +33,6 @@ module _ (p : List ℕ) (f : ℕ → Bool) (v : ℕ) where
   unfolding ownIf
   of-none x e h = and-both _ _ e (not-of _ (λ q. h (both-at (length p) (λ u. properly p v u && f u) (λ u. under p u x) q)))
 
-  own-in : (x : ℕ) → ownIf p f v x ≡ true → under p v x ≡ true
-  unfolding ownIf
-  own-in x e = and-left (under p v x) _ e
-
   pub ownIf-outside : (x : ℕ) → under p v x ≡ false → ownIf p f v x ≡ false
   unfolding ownIf
   ownIf-outside x e = and-false-left (under p v x) _ e
