@@ -1,3 +1,3 @@
 pub mod Laws
 mod Table
-mod Running
+pub mod Running

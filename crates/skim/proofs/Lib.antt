@@ -1,5 +1,5 @@
 pub mod Laws
-mod Rows
+pub mod Rows
 mod Pieces
 mod Ends
 pub mod Cases

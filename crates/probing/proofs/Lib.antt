@@ -1,0 +1,4 @@
+pub mod Laws
+pub mod Fill
+pub mod Walk
+pub mod Cases

@@ -1,0 +1,1 @@
+// A fixed table of words with linear probing: definitions and theorems alone.
