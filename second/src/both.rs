@@ -1,7 +1,8 @@
 //! Two renderings of one definition, held against each other.
 //!
-//! The literal rendering says what 01 says, at any cost. The climbing one says
-//! the same by walking from nodes to the root, and serves large trees.
+//! The literal rendering says what 01 and 02 say, at any cost. A quicker one says
+//! the same, on trees mostly by climbing from nodes to the root, and serves large
+//! cases.
 
 use std::fmt::Debug;
 
@@ -10,12 +11,23 @@ pub const LITERAL_UP_TO: usize = 64;
 
 /// The climbing answer. On small trees it panics if the literal one differs.
 pub fn agreed<T: PartialEq + Debug>(what: &str, n: usize, climbing: T, literal: impl FnOnce() -> T) -> T {
-    if n <= LITERAL_UP_TO {
+    agreed_up_to(LITERAL_UP_TO, what, n, climbing, literal)
+}
+
+/// The quicker answer. Up to a size it panics if the literal one differs.
+pub fn agreed_up_to<T: PartialEq + Debug>(
+    limit: usize,
+    what: &str,
+    size: usize,
+    quicker: T,
+    literal: impl FnOnce() -> T,
+) -> T {
+    if size <= limit {
         let literal = literal();
         assert!(
-            climbing == literal,
-            "{what}: climbing {climbing:?}, literal {literal:?}"
+            quicker == literal,
+            "{what}: quicker {quicker:?}, literal {literal:?}"
         );
     }
-    climbing
+    quicker
 }

@@ -10,8 +10,13 @@
 //! of parents, tags, ends, occurrences, counts and work, then their contents. Of
 //! the reader: its magic number, the lengths of text, parents, tags, firsts,
 //! lasts and work, then their contents, the text with up to three bytes of 0
-//! behind it. A file is cases one after the other.
+//! behind it. Of the word dictionary: its magic number, the lengths of text,
+//! words, word ends, slots, parents, tags, firsts, lasts, ends, occurrences,
+//! counts and work, then their contents, text and words with up to three bytes of
+//! 0 behind each. A file is cases one after the other.
 
+use crate::build;
+use crate::build::call::{Building, Built};
 use crate::call::{After, Call, Reply, Search};
 use crate::judge;
 use crate::merge;
@@ -27,6 +32,7 @@ pub const MAGIC: u32 = 0x5351_4C43;
 pub const MERGING: u32 = 0x5351_4C4D;
 pub const READING: u32 = 0x5351_4C52;
 pub const REASONING: u32 = 0x5351_4C57;
+pub const BUILDING: u32 = 0x5351_4C42;
 
 /// A case of any kind.
 #[derive(Clone, PartialEq, Eq, Debug)]
@@ -35,15 +41,22 @@ pub enum Case {
     Merging(Merging),
     Reasoning(Reasoning),
     Reading(Reading),
+    Building(Building),
 }
 
 fn bytes(numbers: &[u32]) -> Vec<u8> {
     numbers.iter().flat_map(|number| number.to_le_bytes()).collect()
 }
 
-/// The zeros behind a text.
+/// The zeros behind bytes.
 fn padding(length: usize) -> usize {
     (4 - length % 4) % 4
+}
+
+/// Writes bytes, and zeros up to a multiple of 4.
+fn write_padded(sink: &mut impl Write, bytes: &[u8]) -> io::Result<()> {
+    sink.write_all(bytes)?;
+    sink.write_all(&[0; 3][..padding(bytes.len())])
 }
 
 /// Writes what a case begins with, the lengths of its slices, and their contents.
@@ -113,8 +126,31 @@ fn write_reading(sink: &mut impl Write, call: &Reading) -> io::Result<()> {
     let mut head = vec![READING, call.text.len() as u32];
     head.extend(slices.iter().map(|slice| slice.len() as u32));
     sink.write_all(&bytes(&head))?;
-    sink.write_all(&call.text)?;
-    sink.write_all(&[0; 3][..padding(call.text.len())])?;
+    write_padded(sink, &call.text)?;
+    for slice in slices {
+        sink.write_all(&bytes(slice))?;
+    }
+    Ok(())
+}
+
+fn write_building(sink: &mut impl Write, call: &Building) -> io::Result<()> {
+    let slices = [
+        &call.word_ends,
+        &call.slots,
+        &call.parents,
+        &call.tags,
+        &call.firsts,
+        &call.lasts,
+        &call.ends,
+        &call.occurrences,
+        &call.counts,
+        &call.work,
+    ];
+    let mut head = vec![BUILDING, call.text.len() as u32, call.words.len() as u32];
+    head.extend(slices.iter().map(|slice| slice.len() as u32));
+    sink.write_all(&bytes(&head))?;
+    write_padded(sink, &call.text)?;
+    write_padded(sink, &call.words)?;
     for slice in slices {
         sink.write_all(&bytes(slice))?;
     }
@@ -128,6 +164,7 @@ pub fn write(sink: &mut impl Write, case: &Case) -> io::Result<()> {
         Case::Merging(call) => write_merging(sink, call),
         Case::Reasoning(call) => write_reasoning(sink, call),
         Case::Reading(call) => write_reading(sink, call),
+        Case::Building(call) => write_building(sink, call),
     }
 }
 
@@ -150,6 +187,13 @@ fn read_numbers(source: &mut impl Read, length: u32) -> io::Result<Vec<u32>> {
         .chunks_exact(4)
         .map(|four| u32::from_le_bytes([four[0], four[1], four[2], four[3]]))
         .collect())
+}
+
+/// Reads so many bytes, and the zeros behind them.
+fn read_padded(source: &mut impl Read, length: u32) -> io::Result<Vec<u8>> {
+    let raw = read_bytes(source, u64::from(length))?;
+    read_bytes(source, padding(raw.len()) as u64)?;
+    Ok(raw)
 }
 
 fn read_search(source: &mut impl Read) -> io::Result<Call> {
@@ -219,8 +263,7 @@ fn read_reasoning(source: &mut impl Read) -> io::Result<Reasoning> {
 
 fn read_reading(source: &mut impl Read) -> io::Result<Reading> {
     let head = read_numbers(source, 6)?;
-    let text = read_bytes(source, u64::from(head[0]))?;
-    read_bytes(source, padding(text.len()) as u64)?;
+    let text = read_padded(source, head[0])?;
     let mut slice = |i: usize| read_numbers(source, head[i]);
     Ok(Reading {
         text,
@@ -229,6 +272,27 @@ fn read_reading(source: &mut impl Read) -> io::Result<Reading> {
         firsts: slice(3)?,
         lasts: slice(4)?,
         work: slice(5)?,
+    })
+}
+
+fn read_building(source: &mut impl Read) -> io::Result<Building> {
+    let head = read_numbers(source, 12)?;
+    let text = read_padded(source, head[0])?;
+    let words = read_padded(source, head[1])?;
+    let mut slice = |i: usize| read_numbers(source, head[i]);
+    Ok(Building {
+        text,
+        words,
+        word_ends: slice(2)?,
+        slots: slice(3)?,
+        parents: slice(4)?,
+        tags: slice(5)?,
+        firsts: slice(6)?,
+        lasts: slice(7)?,
+        ends: slice(8)?,
+        occurrences: slice(9)?,
+        counts: slice(10)?,
+        work: slice(11)?,
     })
 }
 
@@ -246,6 +310,8 @@ pub fn read(source: &mut impl Read) -> io::Result<Option<Case>> {
         Ok(Some(Case::Reasoning(read_reasoning(source)?)))
     } else if first == READING.to_le_bytes() {
         Ok(Some(Case::Reading(read_reading(source)?)))
+    } else if first == BUILDING.to_le_bytes() {
+        Ok(Some(Case::Building(read_building(source)?)))
     } else {
         Err(broken("a case does not start with a magic number"))
     }
@@ -328,6 +394,23 @@ pub fn reading_line(index: usize, after: &ReadAfter) -> String {
     )
 }
 
+/// `INDEX build refusal place total SLOTS P T F L E O C W`, without the line end.
+pub fn building_line(index: usize, after: &Built) -> String {
+    format!(
+        "{index} build {} {} {} {} {} {} {} {} {} {}",
+        print_reply(after.reply),
+        print(&after.slots),
+        print(&after.parents),
+        print(&after.tags),
+        print(&after.firsts),
+        print(&after.lasts),
+        print(&after.ends),
+        print(&after.occurrences),
+        print(&after.counts),
+        print(&after.work),
+    )
+}
+
 /// The line of a case.
 pub fn expected(index: usize, case: &Case) -> String {
     match case {
@@ -335,6 +418,7 @@ pub fn expected(index: usize, case: &Case) -> String {
         Case::Merging(call) => merging_line(index, call.merge, &merge::judge::judge(call)),
         Case::Reasoning(call) => reasoning_line(index, &reason::judge::judge(call)),
         Case::Reading(call) => reading_line(index, &xml::judge::judge(call)),
+        Case::Building(call) => building_line(index, &build::judge::judge(call)),
     }
 }
 

@@ -2,7 +2,8 @@
 
 use second::casefile::Case;
 use second::gen::{
-    large, large_merges, large_reasons, large_texts, merges, near, reading, reasons, small, tables,
+    builds, large, large_builds, large_merges, large_reasons, large_texts, merges, near, reading, reasons,
+    small, tables,
 };
 use second::xml::seen::seen;
 use second::{casefile, show, table};
@@ -23,6 +24,8 @@ usage:
   second texts SEED COUNT        COUNT small cases of the reader to standard output
   second near-texts              every text next to some small ones, as cases of the reader
   second large-texts SEED        the large cases of the reader to standard output
+  second builds SEED COUNT       COUNT small cases of the word dictionary to standard output
+  second large-builds SEED       the large cases of the word dictionary to standard output
   second expect FILE             one line for each case of FILE (- is standard input)
   second tables SEED COUNT DIR   COUNT table inputs with expected outputs into DIR
   second show FILE N             case N of FILE, from 0, in readable form
@@ -110,7 +113,7 @@ fn print_seen(file: &str) -> io::Result<()> {
     each_case(file, |index, case| {
         let lines = match &case {
             Case::Reading(call) => casefile::seen_lines(index, &call.text),
-            Case::Search(_) | Case::Merging(_) | Case::Reasoning(_) => None,
+            Case::Search(_) | Case::Merging(_) | Case::Reasoning(_) | Case::Building(_) => None,
         };
         let lines = lines.ok_or_else(|| other(format!("case {index} is not plain")))?;
         sink.write_all(lines.as_bytes())
@@ -192,6 +195,16 @@ fn run(words: &[&str]) -> Result<(), Trouble> {
             let seed = number(seed)?;
             write_cases(
                 (0..large_texts::how_many()).map(|case| Case::Reading(large_texts::large(seed, case).0)),
+            )?
+        }
+        ["builds", seed, count] => {
+            let seed = number(seed)?;
+            write_cases((0..number(count)?).map(|case| Case::Building(builds::small(seed, case).building)))?
+        }
+        ["large-builds", seed] => {
+            let seed = number(seed)?;
+            write_cases(
+                (0..large_builds::how_many()).map(|case| Case::Building(large_builds::large(seed, case).0)),
             )?
         }
         ["expect", file] => print_expected(file)?,

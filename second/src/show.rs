@@ -1,6 +1,10 @@
 //! A case in readable form.
 
-use crate::call::{refusal_name, Call, Reply};
+use crate::build;
+use crate::build::call::{Building, ROW_NAMES};
+use crate::build::scan::scan;
+use crate::build::words::Mention;
+use crate::call::{refusal_name, Call, Reply, ACCEPTED};
 use crate::casefile::Case;
 use crate::judge::judge;
 use crate::merge;
@@ -39,6 +43,7 @@ pub fn show(case: &Case) -> String {
         Case::Merging(call) => show_merging(call),
         Case::Reasoning(call) => show_reasoning(call),
         Case::Reading(call) => show_reading(call),
+        Case::Building(call) => show_building(call),
     }
 }
 
@@ -154,13 +159,17 @@ fn show_reasoning(call: &Reasoning) -> String {
     text
 }
 
-/// The text with its places, sixteen bytes a line, as C would quote them.
+/// A text with its places, sixteen bytes a line, as C would quote them.
+fn text_rows(text: &mut String, lent: &[u8]) {
+    for (line, bytes) in lent.chunks(16).enumerate() {
+        writeln!(text, "{:9} {}", line * 16, bytes.escape_ascii()).unwrap();
+    }
+}
+
 fn show_reading(call: &Reading) -> String {
     let mut text = String::new();
     writeln!(text, "read  text {} bytes", call.text.len()).unwrap();
-    for (line, bytes) in call.text.chunks(16).enumerate() {
-        writeln!(text, "{:9} {}", line * 16, bytes.escape_ascii()).unwrap();
-    }
+    text_rows(&mut text, &call.text);
     row(&mut text, "parents", &call.parents);
     row(&mut text, "tags", &call.tags);
     row(&mut text, "firsts", &call.firsts);
@@ -173,5 +182,51 @@ fn show_reading(call: &Reading) -> String {
     row(&mut text, "firsts after", &after.firsts);
     row(&mut text, "lasts after", &after.lasts);
     row(&mut text, "work after", &after.work);
+    text
+}
+
+/// The query's words, parted as far as their ends allow.
+fn word_rows(text: &mut String, words: &[u8], word_ends: &[u32]) {
+    writeln!(text, "words ({}): {}", words.len(), words.escape_ascii()).unwrap();
+    row(text, "word ends", word_ends);
+    let mut start = 0;
+    for (j, &end) in word_ends.iter().enumerate() {
+        if let Some(word) = words.get(start as usize..end as usize) {
+            writeln!(text, "  word {j}: {}", word.escape_ascii()).unwrap();
+        }
+        start = end;
+    }
+}
+
+/// The words of a table that an accepted call leaves.
+fn slot_rows(text: &mut String, lent: &[u8], slots: &[u32]) {
+    let mentions = scan(lent);
+    for (slot, &number) in slots.iter().enumerate() {
+        let held = mentions.iter().find(|mention| mention.place as u32 + 1 == number);
+        if let Some(Mention { place, word, .. }) = held {
+            writeln!(text, "  slot {slot}: place {place}, {}", word.escape_ascii()).unwrap();
+        }
+    }
+}
+
+fn show_building(call: &Building) -> String {
+    let mut text = String::new();
+    writeln!(text, "build  text {} bytes  k {}", call.text.len(), call.k()).unwrap();
+    text_rows(&mut text, &call.text);
+    word_rows(&mut text, &call.words, &call.word_ends);
+    row(&mut text, "slots", &call.slots);
+    let mut lent = call.untouched(0, 0, 0);
+    for (name, slice) in ROW_NAMES.iter().zip(lent.rows()) {
+        row(&mut text, name, slice);
+    }
+    let mut after = build::judge::judge(call);
+    reply_row(&mut text, after.reply);
+    row(&mut text, "slots after", &after.slots);
+    if after.reply.refusal == ACCEPTED {
+        slot_rows(&mut text, &call.text, &after.slots);
+    }
+    for (name, slice) in ROW_NAMES.iter().zip(after.rows()) {
+        row(&mut text, &format!("{name} after"), slice);
+    }
     text
 }

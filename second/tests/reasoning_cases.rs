@@ -2,7 +2,7 @@
 
 mod common;
 
-use common::{come_back, is_own, room};
+use common::{add, come_back, hold, is_own, room, Tally};
 use second::call::{refusal_name, Index, Search, ACCEPTED, NODE};
 use second::casefile::{expected, fnv1a, read, write, Case};
 use second::check::check;
@@ -21,8 +21,7 @@ use second::reason::judge::judge;
 use second::reason::why::climbing;
 use second::show::show;
 use second::tree::{level, under};
-use std::collections::{BTreeMap, BTreeSet};
-use std::fmt::Debug;
+use std::collections::BTreeSet;
 
 #[test]
 fn each_case_of_elca_is_asked_about() {
@@ -272,22 +271,6 @@ fn stands(node: u32, n: u32) -> &'static str {
         0 => "0",
         _ if node + 1 == n => "n - 1",
         _ => "below",
-    }
-}
-
-/// How often each thing is met.
-type Tally<K> = BTreeMap<K, usize>;
-
-fn add<K: Ord>(tally: &mut Tally<K>, what: K) {
-    *tally.entry(what).or_default() += 1;
-}
-
-/// Prints a tally, and holds it to have so many things, each met so often.
-fn hold<K: Debug>(what: &str, tally: &Tally<K>, things: usize, least: usize) {
-    println!("{what}: {tally:?}");
-    assert_eq!(tally.len(), things, "{what}");
-    for (thing, &times) in tally {
-        assert!(times >= least, "{what}: {thing:?} is met {times} times only");
     }
 }
 

@@ -204,7 +204,7 @@ impl Model<'_> {
         for w in self.below(v).skip(1) {
             let deeper = topmost
                 .last()
-                .is_some_and(|&above| self.below(above).contains(&w));
+                .map_or(false, |&above| self.below(above).contains(&w));
             if !deeper && self.listed(w) {
                 topmost.push(w);
             }

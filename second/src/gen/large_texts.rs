@@ -118,7 +118,7 @@ pub fn how_many() -> usize {
 
 /// A text of exactly so many bytes: what stands before, a filling, what stands
 /// behind.
-fn filled(pen: &mut Pen, bytes: usize, behind: &[u8], fill: impl Fn(&mut Pen)) {
+pub fn filled(pen: &mut Pen, bytes: usize, behind: &[u8], fill: impl Fn(&mut Pen)) {
     let goal = bytes - behind.len();
     let mut good = pen.text.len();
     while pen.text.len() <= goal {
@@ -152,7 +152,8 @@ fn notes(pen: &mut Pen, bytes: usize, behind: &str) {
     });
 }
 
-fn write(pen: &mut Pen, kind: Kind) {
+/// Writes a text of a kind.
+pub fn write(pen: &mut Pen, kind: Kind) {
     match kind {
         Trains(nodes) => {
             pen.word(b"<schedules>");

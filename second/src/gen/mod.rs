@@ -1,7 +1,10 @@
 //! Seeded cases and tables. The same seed gives the same bytes everywhere.
 
+pub mod builds;
+pub mod clash;
 pub mod damage;
 pub mod large;
+pub mod large_builds;
 pub mod large_merges;
 pub mod large_reasons;
 pub mod large_texts;
@@ -10,6 +13,7 @@ pub mod merges;
 pub mod near;
 pub mod pen;
 pub mod placed;
+pub mod queries;
 pub mod reading;
 pub mod reasons;
 pub mod rng;
@@ -19,3 +23,4 @@ pub mod spoil;
 pub mod tables;
 pub mod texts;
 pub mod words;
+pub mod wordy;

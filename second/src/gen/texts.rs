@@ -4,7 +4,7 @@ use super::pen::Pen;
 use super::rng::Rng;
 
 /// What a text is like.
-#[derive(Clone, Copy, PartialEq, Eq, Debug)]
+#[derive(Clone, Copy, PartialEq, Eq, PartialOrd, Ord, Debug)]
 pub enum Manner {
     /// Trains, legs, stations and notes, as a merger writes them.
     Schedule,

@@ -34,6 +34,16 @@ fn column(nodes: &[Node], of: impl Fn(&Node) -> usize) -> Vec<u32> {
     nodes.iter().map(|node| of(node) as u32).collect()
 }
 
+/// Parents, tags, first and last places.
+pub fn columns(text: &[u8], nodes: &[Node]) -> [Vec<u32>; 4] {
+    [
+        column(nodes, |node| node.parent),
+        tags(text, nodes),
+        column(nodes, |node| node.first),
+        column(nodes, |node| node.last),
+    ]
+}
+
 pub fn judge(call: &Reading) -> Read {
     if call.text.len() > BYTES {
         return call.refused(SIZE, 0, 0);
@@ -45,11 +55,12 @@ pub fn judge(call: &Reading) -> Read {
     };
     let n = nodes.len();
     let mut after = call.refused(ROOM, 0, n as u32);
+    let [parents, tags, firsts, lasts] = columns(&call.text, &nodes);
     let columns = [
-        (&mut after.parents, column(&nodes, |node| node.parent)),
-        (&mut after.tags, tags(&call.text, &nodes)),
-        (&mut after.firsts, column(&nodes, |node| node.first)),
-        (&mut after.lasts, column(&nodes, |node| node.last)),
+        (&mut after.parents, parents),
+        (&mut after.tags, tags),
+        (&mut after.firsts, firsts),
+        (&mut after.lasts, lasts),
         (&mut after.work, vec![0; 3 * n]),
     ];
     if columns.iter().any(|(lent, column)| lent.len() < column.len()) {

@@ -12,6 +12,7 @@ use second::slca::slca;
 use second::tree::{climb, under};
 use second::valid;
 use std::collections::BTreeMap;
+use std::fmt::Debug;
 
 // 01, "A small schedule to work by".
 pub const PARENTS: [u32; 18] = [0, 0, 1, 2, 3, 2, 5, 1, 7, 8, 7, 10, 0, 12, 13, 14, 0, 16];
@@ -35,6 +36,22 @@ pub fn room(lent: usize, needed: usize) -> &'static str {
         _ if lent < needed => "shorter",
         _ if lent == needed => "exact",
         _ => "longer",
+    }
+}
+
+/// How often each thing is met.
+pub type Tally<K> = BTreeMap<K, usize>;
+
+pub fn add<K: Ord>(tally: &mut Tally<K>, what: K) {
+    *tally.entry(what).or_default() += 1;
+}
+
+/// Prints a tally, and holds it to have so many things, each met so often.
+pub fn hold<K: Debug>(what: &str, tally: &Tally<K>, things: usize, least: usize) {
+    println!("{what}: {tally:?}");
+    assert_eq!(tally.len(), things, "{what}");
+    for (thing, &times) in tally {
+        assert!(times >= least, "{what}: {thing:?} is met {times} times only");
     }
 }
 

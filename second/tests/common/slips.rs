@@ -4,7 +4,7 @@
 macro_rules! slips {
     ($($slip:ident,)*) => {
         #[derive(Clone, Copy, PartialEq, Eq, Debug)]
-        enum Slip {
+        pub enum Slip {
             $($slip,)*
         }
 
