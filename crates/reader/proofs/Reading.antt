@@ -3,8 +3,9 @@
 --   refused-reads, room-reads, accepted-reads   the three ways that `read` returns
 --   read-unique     no second outcome fits
 -- Letters as in specs/Read; n the number of nodes. Assumes nothing.
-use Prim.Native.Nat.{ℕ, suc, _+_, _*_, _≤_, _<_}
+use Prim.Native.Nat.{ℕ, suc, _+_, _*_, _/_, _≤_, _<_}
 use mathlib.Core.Path.{_≡_, refl, sym, ap, _∙_}
+use mathlib.Core.Logic.{⊎-elim}
 use mathlib.Core.List.{List, [], _∷_, _++_, map}
 use mathlib.Core.Bool.{Bool, true, false, cond, _&&_, _||_}
 use mathlib.Core.Option.{some, none}
@@ -15,6 +16,7 @@ use lib.Seq.{length-take-le}
 use borrow.Author.Tests.{eq-eqb, ne-eqb, leb-true, leb-false, le-leb, lt-leb, le-ltb}
 use Rattle.seq.specs.Memory.{zeroed, over}
 use Rattle.seq.proofs.Laws.Bools.{and-left, and-right, and-both, and-false-right, cond-true, cond-false}
+use Rattle.seq.proofs.Laws.Numbers.{less-or}
 use Rattle.index.specs.declared.Reply.{Reply}
 use Rattle.index.specs.Replies.{accepted, SIZE, ROOM, refused, totalled, keptOr}
 use Rattle.profile.specs.Tree.{Node}
@@ -59,9 +61,16 @@ module _ (n p t f l w : ℕ) where
       (and-false-right (leb n t) (leb n f && (leb n l && leb (3 * n) w))
       (and-false-right (leb n f) (leb n l && leb (3 * n) w) (ap (λ b. b && leb (3 * n) w) (lt-leb n l h)))))
 
-  pub work-tells : n ≤ p → n ≤ t → n ≤ f → n ≤ l → leb (3 * n) w ≡ fits n p t f l w
+  -- n entries are a third of the work at most exactly if three times as many fit.
+  third : leb n (w / 3) ≡ leb (3 * n) w
+  third = ⊎-elim (λ (h : w < 3 * n). lt-leb n (w / 3) (omega arith) ∙ sym (lt-leb (3 * n) w h)) (λ (h : 3 * n ≤ w). le-leb n (w / 3) (omega arith) ∙ sym (le-leb (3 * n) w h)) (less-or w (3 * n))
+
+  pub work-tells : n ≤ p → n ≤ t → n ≤ f → n ≤ l → leb n (w / 3) ≡ fits n p t f l w
   unfolding fits
-  work-tells a b c d = rw (le-leb n p a, le-leb n t b, le-leb n f c, le-leb n l d)
+  work-tells a b c d = third ∙ rw (le-leb n p a, le-leb n t b, le-leb n f c, le-leb n l d)
+
+  pub has-room-unique : (r r′ : Bool) → r ≡ fits n p t f l w → r′ ≡ fits n p t f l w → r ≡ r′
+  has-room-unique r r′ a b = a ∙ sym b
 
   pub record Room : Type 0 where
     pub parents : n ≤ p
@@ -179,7 +188,7 @@ module _ (T : List ℕ) (l : Lent) (r : Reply) (e : r ≡ judgeReply T) where
         ap (λ (r : Reply). totalled ROOM (r .total)) e ∙
         sym (cond-true (eqb (judgeReply T .refusal) accepted) accepted-is _ _ ∙ cond-false (fitsIn (judgeReply T .total) l) (sym (ap (λ (r : Reply). fitsIn (r .total) l) e) ∙ f) _ _)
 
-    full-reply : fitsIn (r .total) l ≡ true → r ≡ readReply T l
+    pub full-reply : fitsIn (r .total) l ≡ true → r ≡ readReply T l
     unfolding readReply
     full-reply f =
         e ∙ sym (cond-true (eqb (judgeReply T .refusal) accepted) accepted-is _ _ ∙ cond-true (fitsIn (judgeReply T .total) l) (sym (ap (λ (r : Reply). fitsIn (r .total) l) e) ∙ f) _ _)
@@ -195,16 +204,16 @@ pub tags-count : (l : List (List ℕ)) → length (tagsOf l) ≡ length l
 unfolding tagsOf
 tags-count l = tags-length [] l
 
-over-is : (new old : List ℕ) → new ++ drop (length new) old ≡ over new old
+pub over-is : (new old : List ℕ) → new ++ drop (length new) old ≡ over new old
 unfolding over
 over-is new old = refl
 
 -- ---- the three ways to return
-kept-as : (r : Reply) (new old : List ℕ) → (r .refusal ≡ accepted → ⊥) → old ≡ keptOr r new old
+pub kept-as : (r : Reply) (new old : List ℕ) → (r .refusal ≡ accepted → ⊥) → old ≡ keptOr r new old
 unfolding keptOr
 kept-as r new old n = rw (ne-eqb (r .refusal) accepted n)
 
-over-as : (r : Reply) (new old : List ℕ) → r .refusal ≡ accepted → over new old ≡ keptOr r new old
+pub over-as : (r : Reply) (new old : List ℕ) → r .refusal ≡ accepted → over new old ≡ keptOr r new old
 unfolding keptOr
 over-as r new old z = rw (eq-eqb (r .refusal) accepted z)
 

@@ -3,13 +3,18 @@
 mod build;
 
 ghost use mathlib.Core.Path.{_≡_};
-ghost use Prim.Native.Nat.{_≤_};
 ghost use Rattle.reader.specs.Read.{fits, lent, Reads};
 ghost use Rattle.reader.specs.Inner.{FillPre, Filled};
 
-// Whether n nodes fit four rows and the work.
-fn has_room(n: usize, parents: usize, tags: usize, firsts: usize, lasts: usize, work: usize) -> bool
-    requires { ⌜ n ≤ 4294967295 ⌝ }
+// Whether n nodes fit four rows of these lengths, and three times as many entries the work.
+pub fn has_room(
+    n: usize,
+    parents: usize,
+    tags: usize,
+    firsts: usize,
+    lasts: usize,
+    work: usize,
+) -> bool
     ensures { λ r. ⌜ r ≡ fits n parents tags firsts lasts work ⌝ }
 {
     if parents < n {
@@ -24,7 +29,7 @@ fn has_room(n: usize, parents: usize, tags: usize, firsts: usize, lasts: usize, 
     if lasts < n {
         return false;
     }
-    3 * n <= work
+    n <= work / 3
 }
 
 // Writes the nodes of a text that is accepted, over rows that are as long as there are nodes.

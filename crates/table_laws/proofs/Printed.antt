@@ -8,7 +8,7 @@ use mathlib.Core.Path.{_≡_, refl, sym, ap, ap₂, _∙_}
 use mathlib.Core.Logic.{⊎-elim}
 use mathlib.Core.List.{List, [], _++_}
 use mathlib.Core.Bool.{Bool, true, false, cond, false≢true}
-use native.Mathlib.Nat.{not-suc-le-zero, le-of-suc-le-suc, add-zero, mul-zero, mul-le-mul-right, mod-lt, div-lt-iff-lt-mul, div-add-mod'}
+use native.Mathlib.Nat.{not-suc-le-zero, le-of-suc-le-suc, add-zero, mul-le-mul-right, mod-lt, div-lt-iff-lt-mul, div-add-mod'}
 use native.Mathlib.Omega.{arith}
 use borrow.Author.Tests.{eq-eqb, ne-eqb, eqb-true}
 use lib.Dec.{eqb, leb}
@@ -17,7 +17,7 @@ use lib.Seq.{ext-getD, take-add, take-length, length-take-le, getD-take}
 use Rattle.seq.specs.Below.{tabulate, listed}
 use Rattle.seq.specs.Lists.{someOf}
 use Rattle.seq.proofs.Laws.Bools.{bool-cases, and-right}
-use Rattle.seq.proofs.Laws.Numbers.{row-le}
+use Rattle.seq.proofs.Laws.Numbers.{row-le, product-some}
 use Rattle.seq.proofs.Laws.Gather.{length-tabulate, getD-tabulate, gather-ext}
 use Rattle.seq.proofs.Laws.Members.{listed-of-rising}
 use Rattle.index.specs.Index.{Index, nodes, words, start, wordList}
@@ -32,11 +32,6 @@ use Rattle.rows.specs.Lent.{listOf, listsOf, endOf, countOf, indexOf}
 use Rattle.rows.specs.Output.{answersText, headText, tableOutput}
 use Rattle.rows.proofs.Laws.Output.{output-table}
 use Rattle.table_laws.specs.Printed.{occursAt, wordAt, numberAt, rowsFrom, rowsOf, indexText, Tabular, positivePart}
-
--- A product that is above a number has a factor above 0.
-product-some : (e k n : ℕ) → e < k * n → 0 < n
-product-some e k zero l = omega (arith, mul-zero k)
-product-some e k (suc n) l = omega arith
 
 -- ---- one node's numbers
 module _ (I : Index) (v : ℕ) where

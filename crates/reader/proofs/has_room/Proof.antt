@@ -16,11 +16,8 @@ returns-3 c = no-firsts _ _ _ _ _ _ (c .if3 .taken)
 returns-4 : tie.Need-returns-4
 returns-4 c = no-lasts _ _ _ _ _ _ (c .if4 .taken)
 
-mul-result : tie.Need-mul-result
-mul-result c = omega (arith, (c .before .before .before .before .pre))
-
 returns-5 : tie.Need-returns-5
 returns-5 c = work-tells _ _ _ _ _ _ (omega (arith, (c .before .before .before .if1 .left))) (omega (arith, (c .before .before .if2 .left))) (omega (arith, (c .before .if3 .left))) (omega (arith, (c .if4 .left)))
 
 pub has-room-spec : {M : Type 1} → statement M
-has-room-spec = tie.close (tie.spec returns returns-2 returns-3 returns-4 mul-result returns-5)
+has-room-spec = tie.close (tie.spec returns returns-2 returns-3 returns-4 returns-5)

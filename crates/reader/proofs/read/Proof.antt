@@ -1,8 +1,7 @@
 -- `reader::read` meets its contract.
-use Rattle.reader.proofs.Reading.{counted, room-of, fill-asks, refused-reads, room-reads, accepted-reads, front-long}
+use Rattle.reader.proofs.Reading.{room-of, fill-asks, refused-reads, room-reads, accepted-reads, front-long}
 use borrow.Author.Tests.{not-true, not-false}
 use lib.Seq.{length-take-le}
-use native.Mathlib.Omega.{arith}
 use mathlib.Core.Path.{sym, _∙_}
 use Rattle.reader.proofs.read.Statement.{statement}
 use Rattle.reader.proofs.read.Tie as tie
@@ -17,7 +16,7 @@ widen-requires : tie.Need-widen-requires
 widen-requires c κs = tt
 
 has-room-requires : tie.Need-has-room-requires
-has-room-requires c κs = omega (arith, (c .widen .ensures), counted _ _ (c .before .before .before .judge .ensures) (c .before .if1 .left) .few)
+has-room-requires c κs = tt
 
 returns-2 : tie.Need-returns-2
 returns-2 c = room-reads _ _ _ _ (c .before .before .before .before .before .judge .ensures) (c .before .before .before .if1 .left) (c .before .before .widen .ensures) (sym (c .before .has-room .ensures) ∙ not-true _ (c .if2 .taken))

@@ -1,0 +1,10 @@
+pub mod Queries
+pub mod Gathering
+pub mod Hits
+pub mod Texts
+pub mod Passing
+pub mod Rows
+pub mod Sums
+pub mod Written
+pub mod Whole
+pub mod Replying

@@ -1,0 +1,191 @@
+-- The parts of `build` put together.
+--   room-tree, room-ends, room-counts   the ways out of `has_room`;  roomy-of: what fits where it gives true
+--   row-list, flag-lists      the nodes that are flagged are the lists
+--   count-row                 the sums of flags are the counts
+--   write-flags, write-lists, write-sums, written   what `write` needs and leaves
+-- Letters: T text, Q query, n nodes, k words, c flags or counts, p parents. Assumes nothing.
+use Prim.Native.Nat.{ℕ, zero, suc, _+_, _*_, _/_, _%_, _≤_, _<_}
+use mathlib.Core.Path.{_≡_, refl, sym, ap, ap₂, subst, _∙_}
+use mathlib.Core.List.{List, [], _∷_, _++_}
+use mathlib.Core.Bool.{Bool, true, false, cond, _&&_}
+use native.Mathlib.Nat.{mul-le-mul-right, div-lt-iff-lt-mul, mod-lt, div-add-mod'}
+use native.Mathlib.Omega.{arith}
+use lib.Dec.{eqb, leb}
+use lib.ListN.{length, getD, drop, length-map, length-drop}
+use lib.Seq.{getD-take, getD-drop, ext-getD, length-take-le}
+use borrow.Author.Tests.{lt-leb, le-leb, leb-true}
+use Rattle.seq.specs.Below.{sumBelow, tabulate, gather, listed}
+use Rattle.seq.specs.Lists.{tally}
+use Rattle.seq.proofs.Laws.Bools.{and-left, and-right, and-false-left, and-false-right}
+use Rattle.seq.proofs.Laws.Numbers.{row-le, product-some}
+use Rattle.seq.proofs.Laws.Sums.{sum-ext}
+use Rattle.seq.proofs.Laws.Lists.{tally-sum}
+use Rattle.seq.proofs.Laws.Gather.{length-tabulate, getD-tabulate, tabulate-ext, gather-ext}
+use Rattle.seq.proofs.Laws.Members.{listed-below, listed-tally}
+use Rattle.tree.specs.Tree.{under, sumUnder}
+use Rattle.tree.specs.Plain.{Down}
+use Rattle.tree.proofs.Laws.Rules.{lawful-of}
+use Rattle.tree.proofs.Laws.Under.{preorder-down}
+use Rattle.index.specs.Index.{countUnder}
+use Rattle.index.specs.Replies.{accepted}
+use Rattle.listing.specs.Listing.{flagged, flaggedRows}
+use Rattle.profile.specs.Reader.{treeOf}
+use Rattle.judge.specs.Judge.{judgeReply}
+use Rattle.judge.proofs.Meaning.{accepted-total}
+use Rattle.reader.specs.Read.{fits, parentsOf, tagsIn}
+use Rattle.reader_laws.proofs.Reading.{read-lawful}
+use Rattle.words.specs.Stands.{stands}
+use Rattle.build.specs.Query.{Query, asked}
+use Rattle.build.specs.Build.{listFor, listsTo, endsFor, countsFor, wordsOf}
+use Rattle.build.specs.Inner.{roomy, rowOf, flagLists, FlagAllPre, FlagsAll, ListsPre, ListsWritten, SumRowsPre, SumsRows, WritePre, Written}
+use Rattle.build.proofs.Queries.{QueryKept, query-kept}
+use Rattle.build.proofs.Texts.{TextKept, text-kept}
+
+-- ---- has_room
+pub small-product : (k n : ℕ) → k ≤ 8 → n ≤ 65536 → k * n ≤ 524288
+small-product k n a b = omega (arith, mul-le-mul-right {m = k} {n = 8} n a, b)
+
+module _ (n k p t f l w e c : ℕ) where
+  pub room-tree : fits n p t f l w ≡ false → false ≡ roomy n k p t f l w e c
+  unfolding roomy
+  room-tree h = sym (and-false-left _ _ h)
+
+  pub room-ends : e < k → false ≡ roomy n k p t f l w e c
+  unfolding roomy
+  room-ends h = sym (and-false-right (fits n p t f l w) _ (and-false-left _ _ (lt-leb k e h)))
+
+  pub room-counts : fits n p t f l w ≡ true → k ≤ e → leb (k * n) c ≡ roomy n k p t f l w e c
+  unfolding roomy
+  room-counts h g = sym (ap₂ (λ x y. x && (y && leb (k * n) c)) h (le-leb k e g))
+
+  -- What fits, where all does.
+  pub record Roomy : Type 0 where
+    pub tree : fits n p t f l w ≡ true
+    pub ends : k ≤ e
+    pub counts : k * n ≤ c
+
+  pub roomy-of : roomy n k p t f l w e c ≡ true → Roomy
+  unfolding roomy
+  roomy-of h =
+      let rest : (leb k e && leb (k * n) c) ≡ true = and-right (fits n p t f l w) (leb k e && leb (k * n) c) h in
+      record {
+        tree = and-left (fits n p t f l w) (leb k e && leb (k * n) c) h;
+        ends = leb-true k e (and-left (leb k e) (leb (k * n) c) rest);
+        counts = leb-true (k * n) c (and-right (leb k e) (leb (k * n) c) rest);
+      }
+
+-- ---- a text that is accepted
+pub parents-long : (T : List ℕ) → length (parentsOf (treeOf T)) ≡ length (treeOf T)
+parents-long T = length-map (treeOf T) (λ a. a .parent)
+
+pub parents-down : (T : List ℕ) → judgeReply T .refusal ≡ accepted → Down (parentsOf (treeOf T)) (length (parentsOf (treeOf T)))
+parents-down T e =
+    preorder-down (parentsOf (treeOf T)) (length (parentsOf (treeOf T)))
+    (lawful-of (parentsOf (treeOf T)) (tagsIn (treeOf T)) (omega (arith, read-lawful T (judgeReply T .total) (accepted-total T (judgeReply T .total) e refl), text-kept T e .total, parents-long T)) .preorder)
+
+-- ---- flags
+eqb-flag : (b : Bool) → eqb (cond b 1 0) 1 ≡ b
+eqb-flag true = refl
+eqb-flag false = refl
+
+module _ (T : List ℕ) (Q : Query) (n : ℕ) (c : List ℕ) (same : n ≡ length (treeOf T)) (f : FlagsAll T Q n c) where
+  row-long : (j : ℕ) → j < wordsOf Q → length (rowOf c n j) ≡ n
+  row-long j l = length-take-le n (drop (j * n) c) (omega (arith, length-drop (j * n) c, f .long, row-le j (wordsOf Q) n l))
+
+  row-entry : (j v : ℕ) → v < n → getD (rowOf c n j) v 0 ≡ getD c (j * n + v) 0
+  row-entry j v l = getD-take n (drop (j * n) c) v 0 l ∙ getD-drop (j * n) c v 0
+
+  row-list : (j : ℕ) → j < wordsOf Q → flaggedRows (rowOf c n j) ≡ listFor T Q j
+  unfolding flaggedRows flagged listFor listed
+  row-list j l =
+      ap (λ (z : ℕ). gather z (λ v. eqb (getD (rowOf c n j) v 0) 1) (λ v. v ∷ [])) (row-long j l) ∙
+      gather-ext n (λ v. eqb (getD (rowOf c n j) v 0) 1) (stands T (asked Q j)) (λ v. v ∷ []) (λ v. v ∷ [])
+      (λ v h. ap (λ (z : ℕ). eqb z 1) (row-entry j v h ∙ f .each j v l h) ∙ eqb-flag (stands T (asked Q j) v)) (λ v h. refl) ∙
+      ap (λ (z : ℕ). gather z (stands T (asked Q j)) (λ v. v ∷ [])) same
+
+  pub flag-lists : (k : ℕ) → k ≤ wordsOf Q → flagLists c n k ≡ listsTo T Q k
+  unfolding flagLists listsTo
+  flag-lists zero h = refl
+  flag-lists (suc k) h = ap₂ _++_ (flag-lists k (omega arith)) (row-list k (omega arith))
+
+  -- Sums of flags are counts.
+  count-row : (p : List ℕ) → length p ≡ n → (j v : ℕ) → j < wordsOf Q → sumUnder p (λ u. getD c (j * n + u) 0) v ≡ countUnder p (listFor T Q j) v
+  unfolding sumUnder countUnder
+  count-row p e j v l =
+      ap (λ (z : ℕ). sumBelow z (λ u. cond (under p v u) (getD c (j * n + u) 0) 0)) e ∙
+      sum-ext n (λ u. cond (under p v u) (getD c (j * n + u) 0) 0) (λ u. cond (under p v u) (tally (eqb u) (listed n (stands T (asked Q j)))) 0)
+      (λ u h. ap (λ (z : ℕ). cond (under p v u) z 0) (f .each j u l h ∙ sym (listed-tally n (stands T (asked Q j)) u h))) ∙
+      tally-sum (under p v) n (listed n (stands T (asked Q j))) (listed-below n (stands T (asked Q j))) ∙ ap (tally (under p v)) list-is
+    where
+      list-is : listed n (stands T (asked Q j)) ≡ listFor T Q j
+      list-is = unfold listFor in ap (λ (z : ℕ). listed z (stands T (asked Q j))) same
+
+-- ---- write
+module _ (T : List ℕ) (Q : Query) (p e o c : List ℕ) (pre : WritePre T Q p e o c) where
+  nodes-is : length p ≡ length (treeOf T)
+  nodes-is = ap length (pre .parents) ∙ parents-long T
+
+  q : QueryKept Q
+  q = query-kept Q (pre .ok)
+
+  t : TextKept T
+  t = text-kept T (pre .kept)
+
+  pub write-flags : FlagAllPre T Q (length p) c
+  write-flags = record { ok = pre .ok; kept = pre .kept; nodes = nodes-is; long = pre .counts ∙ ap (λ (z : ℕ). wordsOf Q * z) (sym nodes-is) }
+
+  module _ (c₁ : List ℕ) (f : FlagsAll T Q (length p) c₁) where
+    pub write-lists : ListsPre c₁ (length p) e o
+    write-lists =
+        record {
+          few = omega (arith, t .few, nodes-is);
+          words = omega (arith, pre .ends, q .few);
+          long = f .long ∙ ap (λ (z : ℕ). z * length p) (sym (pre .ends));
+          room = pre .lists ∙ ap length (sym (flag-lists T Q (length p) c₁ nodes-is f (wordsOf Q) (omega arith)) ∙ ap (flagLists c₁ (length p)) (sym (pre .ends)));
+        }
+
+    pub write-sums : SumRowsPre p (wordsOf Q) c₁
+    write-sums =
+        record {
+          down = subst (λ p. Down p (length p)) (sym (pre .parents)) (parents-down T (pre .kept));
+          few = omega (arith, t .few, nodes-is);
+          words = q .few;
+          long = f .long;
+          bits = λ j v a b. subst (λ (z : ℕ). z ≤ 1) (sym (f .each j v a b)) (one (stands T (asked Q j) v));
+        }
+      where
+        one : (b : Bool) → cond b 1 0 ≤ 1
+        one true = omega arith
+        one false = omega arith
+
+    -- Entry i is that of node i % n of word i / n.
+    count-entry : (c₂ : List ℕ) → SumsRows p (wordsOf Q) c₁ c₂ → (i : ℕ) → i < wordsOf Q * length (treeOf T) →
+        getD c₂ i 0 ≡ countUnder (parentsOf (treeOf T)) (listFor T Q (i / length (treeOf T))) (i % length (treeOf T))
+    count-entry c₂ s i l =
+        ap (λ (z : ℕ). getD c₂ z 0) (sym (div-add-mod' i (length (treeOf T))) ∙ ap (λ (z : ℕ). i / length (treeOf T) * z + i % length (treeOf T)) (sym nodes-is)) ∙
+        s .each (i / length (treeOf T)) (i % length (treeOf T)) word (omega (arith, mod-lt i some, nodes-is)) ∙
+        count-row T Q (length p) c₁ nodes-is f p refl (i / length (treeOf T)) (i % length (treeOf T)) word ∙
+        ap (λ p. countUnder p (listFor T Q (i / length (treeOf T))) (i % length (treeOf T))) (pre .parents)
+      where
+        some : 0 < length (treeOf T)
+        some = product-some i (wordsOf Q) (length (treeOf T)) l
+
+        word : i / length (treeOf T) < wordsOf Q
+        word = div-lt-iff-lt-mul some .1 l
+
+    pub written : (e′ o′ c₂ : List ℕ) → ListsWritten c₁ (length p) e o e′ o′ → SumsRows p (wordsOf Q) c₁ c₂ → Written T Q e′ o′ c₂
+    unfolding endsFor countsFor
+    written e′ o′ c₂ w s =
+        record {
+          ends = w .ends ∙ ap (λ (z : ℕ). tabulate z (λ j. length (flagLists c₁ (length p) (suc j)))) (pre .ends) ∙
+              tabulate-ext (wordsOf Q) (λ j. length (flagLists c₁ (length p) (suc j))) (λ j. length (listsTo T Q (suc j))) (λ j l. ap length (flag-lists T Q (length p) c₁ nodes-is f (suc j) (omega arith)));
+          lists = w .lists ∙ ap (flagLists c₁ (length p)) (pre .ends) ∙ flag-lists T Q (length p) c₁ nodes-is f (wordsOf Q) (omega arith);
+          counts = ext-getD 0 c₂ (tabulate (wordsOf Q * length (treeOf T)) count) (s .long ∙ all-nodes ∙ sym (length-tabulate (wordsOf Q * length (treeOf T)) count))
+              (λ i l. let h : i < wordsOf Q * length (treeOf T) = omega (arith, s .long, all-nodes) in count-entry c₂ s i h ∙ sym (getD-tabulate (wordsOf Q * length (treeOf T)) count i 0 h));
+        }
+      where
+        all-nodes : wordsOf Q * length p ≡ wordsOf Q * length (treeOf T)
+        all-nodes = ap (λ (z : ℕ). wordsOf Q * z) nodes-is
+
+        count : ℕ → ℕ
+        count i = countUnder (parentsOf (treeOf T)) (listFor T Q (i / length (treeOf T))) (i % length (treeOf T))
