@@ -1,4 +1,4 @@
-/* The calls of sonquilate.h in plain C, by the same algorithms and with no proof: what bench.c measures the library against. */
+/* The calls of sonquilate.h in plain C, by the same algorithms and with no proof: what bench.c, reads.c and builds.c measure the library against. */
 #ifndef PLAIN_H
 #define PLAIN_H
 
@@ -24,5 +24,10 @@ sq_explanation plain_reason(const lent *x, uint32_t node, uint32_t *work, size_t
 /* In plain_read.c. */
 sq_reply plain_read(const uint8_t *text, size_t text_len, uint32_t *parents, size_t parents_len, uint32_t *tags, size_t tags_len, uint32_t *firsts, size_t firsts_len,
                     uint32_t *lasts, size_t lasts_len, uint32_t *work, size_t work_len);
+/* In plain_build.c, which has plain_read too. */
+sq_reply plain_build(const uint8_t *text, size_t text_len, const uint8_t *words, size_t words_len, const uint32_t *word_ends, size_t word_ends_len, uint32_t *slots,
+                     size_t slots_len, uint32_t *parents, size_t parents_len, uint32_t *tags, size_t tags_len, uint32_t *firsts, size_t firsts_len, uint32_t *lasts,
+                     size_t lasts_len, uint32_t *ends, size_t ends_len, uint32_t *occurrences, size_t occurrences_len, uint32_t *counts, size_t counts_len, uint32_t *work,
+                     size_t work_len);
 
 #endif

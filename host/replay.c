@@ -1,10 +1,11 @@
 /* Replays the cases of a case file (second/README.md says its layout) through include/sonquilate.h, from standard input. For
  * each case one line: its number, the call, the reply, and the final content of each slice that the call may write, as its
  * length and a hash: of a search work, out and own, of a search without counts the stack, out and own, of a node's reason work,
- * of the reader parents, tags, firsts, lasts and work. A reason itself stands between the reply and work.
+ * of the reader parents, tags, firsts, lasts and work, of the word dictionary slots, parents, tags, firsts, lasts, ends,
+ * occurrences, counts and work. A reason itself stands between the reply and work.
  * Every slice stands between fences of its own, and what is lent to be read is hashed before and after: a write to
  * anything else, or past a slice's ends, stops the run with status 3. In every other case an empty slice is lent
- * as a null pointer. The text stands at every alignment in turn. */
+ * as a null pointer. Text and words stand at every alignment in turn. */
 #include "sonquilate.h"
 
 #include <stdio.h>
@@ -14,6 +15,7 @@
 #define MERGE_CASE 0x53514C4Du
 #define REASON_CASE 0x53514C57u
 #define READ_CASE 0x53514C52u
+#define BUILD_CASE 0x53514C42u
 #define FENCE 0xA5A5A5A5u
 
 enum { WORDS = 8 }; /* the most that there may be */
@@ -21,6 +23,8 @@ enum { PARENTS, TAGS, ENDS, OCCURRENCES, COUNTS, WORK, OUT, OWN, SLICES };
 enum { CHECK, ELCA, SLCA, VALID, SEARCHES };
 enum { MERGE_ELCA, MERGE_SLCA, MERGES };
 enum { READ_PARENTS, READ_TAGS, READ_FIRSTS, READ_LASTS, READ_WORK, READ_SLICES };
+enum { BUILD_WORD_ENDS, BUILD_SLOTS, BUILD_PARENTS, BUILD_TAGS, BUILD_FIRSTS, BUILD_LASTS, BUILD_ENDS, BUILD_OCCURRENCES,
+       BUILD_COUNTS, BUILD_WORK, BUILD_SLICES };
 
 static const char *const names[SEARCHES] = {"check", "elca", "slca", "valid"};
 static const char *const merge_names[MERGES] = {"merge_elca", "merge_slca"};
@@ -307,42 +311,48 @@ static void replay_reason(unsigned long index) {
         take_back(s[i], index);
 }
 
-/* ---- the reader */
+/* ---- bytes */
 
 enum { BYTE_FENCE = 8 };
 
-/* Where the fences of a text stand: before and behind it. */
-static uint8_t *fence(bytes text, int behind) {
-    return behind ? text.at + text.length : text.at - BYTE_FENCE;
+/* Where the fences of bytes stand: before and behind them. */
+static uint8_t *fence(bytes b, int behind) {
+    return behind ? b.at + b.length : b.at - BYTE_FENCE;
 }
 
-static bytes lend_text(size_t length, unsigned long index) {
+/* Bytes that begin so far behind an aligned place. */
+static bytes lend_bytes(size_t length, unsigned shift, unsigned long index) {
     uint8_t *with_fences = memory(length + 2 * BYTE_FENCE + 3, index);
     uint8_t zeros[3];
     size_t padding = (4 - length % 4) % 4;
-    bytes text = {with_fences + index % 4 + BYTE_FENCE, length};
+    bytes b = {with_fences + shift + BYTE_FENCE, length};
     for (int behind = 0; behind < 2; behind++)
         for (int i = 0; i < BYTE_FENCE; i++)
-            fence(text, behind)[i] = FENCE & 255u;
-    if (fread(text.at, 1, length, stdin) != length || fread(zeros, 1, padding, stdin) != padding)
+            fence(b, behind)[i] = FENCE & 255u;
+    if (fread(b.at, 1, length, stdin) != length || fread(zeros, 1, padding, stdin) != padding)
         stop(1, "the file ends inside a case", index);
-    return text;
+    return b;
 }
 
-static void take_back_text(bytes text, unsigned long index) {
+static void take_back_bytes(bytes b, unsigned shift, unsigned long index) {
     for (int behind = 0; behind < 2; behind++)
         for (int i = 0; i < BYTE_FENCE; i++)
-            if (fence(text, behind)[i] != (FENCE & 255u))
-                stop(3, "a write past the text", index);
-    free(fence(text, 0) - index % 4);
+            if (fence(b, behind)[i] != (FENCE & 255u))
+                stop(3, "a write past bytes", index);
+    free(fence(b, 0) - shift);
 }
+
+static bytes bytes_as_lent(bytes b, unsigned long index) {
+    bytes null = {NULL, 0};
+    return b.length == 0 && index % 2 == 1 ? null : b;
+}
+
+/* ---- the reader */
 
 static void try_read(unsigned long index, bytes text, const slice *s) {
     uint64_t before = hash_bytes(text);
-    bytes lent_text = text;
+    bytes lent_text = bytes_as_lent(text, index);
     slice lent[READ_SLICES];
-    if (text.length == 0 && index % 2 == 1)
-        lent_text.at = NULL;
     for (int i = 0; i < READ_SLICES; i++)
         lent[i] = as_lent(s[i], index);
     sq_reply r = sq_read(LENT(lent_text), LENT(lent[READ_PARENTS]), LENT(lent[READ_TAGS]), LENT(lent[READ_FIRSTS]),
@@ -356,16 +366,57 @@ static void try_read(unsigned long index, bytes text, const slice *s) {
 
 static void replay_read(unsigned long index) {
     uint32_t head[1 + READ_SLICES];
+    unsigned shift = index % 4;
     slice s[READ_SLICES];
     if (!numbers(head, 1 + READ_SLICES))
         stop(1, "no case file", index);
-    bytes text = lend_text(head[0], index);
+    bytes text = lend_bytes(head[0], shift, index);
     for (int i = 0; i < READ_SLICES; i++)
         s[i] = lend(head[1 + i], index);
     try_read(index, text, s);
     for (int i = 0; i < READ_SLICES; i++)
         take_back(s[i], index);
-    take_back_text(text, index);
+    take_back_bytes(text, shift, index);
+}
+
+/* ---- the word dictionary */
+
+static void try_build(unsigned long index, bytes text, bytes words, const slice *s) {
+    uint64_t text_before = hash_bytes(text), words_before = hash_bytes(words), before[BUILD_SLOTS];
+    bytes lent_text = bytes_as_lent(text, index), lent_words = bytes_as_lent(words, index);
+    slice lent[BUILD_SLICES];
+    hash_lent(s, BUILD_SLOTS, before);
+    for (int i = 0; i < BUILD_SLICES; i++)
+        lent[i] = as_lent(s[i], index);
+    sq_reply r = sq_build(LENT(lent_text), LENT(lent_words), LENT(lent[BUILD_WORD_ENDS]), LENT(lent[BUILD_SLOTS]),
+                          LENT(lent[BUILD_PARENTS]), LENT(lent[BUILD_TAGS]), LENT(lent[BUILD_FIRSTS]), LENT(lent[BUILD_LASTS]),
+                          LENT(lent[BUILD_ENDS]), LENT(lent[BUILD_OCCURRENCES]), LENT(lent[BUILD_COUNTS]),
+                          LENT(lent[BUILD_WORK]));
+    if (hash_bytes(text) != text_before)
+        stop(3, "a write to the text", index);
+    if (hash_bytes(words) != words_before)
+        stop(3, "a write to the words", index);
+    hold_lent(s, BUILD_SLOTS, before, index);
+    printf("%lu build", index);
+    print_reply(r);
+    print_slices(s, BUILD_SLOTS, BUILD_SLICES);
+}
+
+static void replay_build(unsigned long index) {
+    uint32_t head[2 + BUILD_SLICES];
+    unsigned text_shift = index % 4, words_shift = index / 4 % 4;
+    slice s[BUILD_SLICES];
+    if (!numbers(head, 2 + BUILD_SLICES))
+        stop(1, "no case file", index);
+    bytes text = lend_bytes(head[0], text_shift, index);
+    bytes words = lend_bytes(head[1], words_shift, index);
+    for (int i = 0; i < BUILD_SLICES; i++)
+        s[i] = lend(head[2 + i], index);
+    try_build(index, text, words, s);
+    for (int i = 0; i < BUILD_SLICES; i++)
+        take_back(s[i], index);
+    take_back_bytes(text, text_shift, index);
+    take_back_bytes(words, words_shift, index);
 }
 
 int main(void) {
@@ -379,6 +430,8 @@ int main(void) {
             replay_reason(index);
         else if (magic == READ_CASE)
             replay_read(index);
+        else if (magic == BUILD_CASE)
+            replay_build(index);
         else
             stop(1, "no case file", index);
     }

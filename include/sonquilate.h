@@ -1,4 +1,5 @@
-/* sonquilate.h: XML keyword search over a lent index, and the reader that makes the index's tree of XML text; version 0.1.
+/* sonquilate.h: XML keyword search over a lent index, the reader that makes the index's tree of XML text, and the builder that
+ * makes the whole index of XML text and the words of a query; version 0.1.
  *
  * What is not declared here is no interface. No function allocates, keeps a pointer, or has a state of its own: the caller
  * owns every buffer. Calls that share nothing but what is only read, the index or the text, may run at once: each needs its
@@ -26,7 +27,7 @@
  * alone. On every index that the first two accept, these give the same nodes, own counts and total [P: engines-agree]. They take
  * no counts, and so accept an index whatever counts are kept beside it.
  *
- * THE LENT TEXT, for sq_read: bytes, of a profile of XML 1.0 in ASCII.
+ * THE LENT TEXT, for sq_read and sq_build: bytes, of a profile of XML 1.0 in ASCII.
  *   document    one root element, with white space and comments before and after it
  *   element     a start tag, content and an end tag with the same name, or an empty-element tag; no attributes; white space
  *               in a tag only before its > or />
@@ -47,8 +48,24 @@
  *   lasts        the > of an element's end tag or empty-element tag; the last byte of the data, white space included
  * Such a tree is one that the searches take: its parents and tags never give SQ_TREE. [P: read-lawful]
  *
- * REPLIES of all calls but sq_read. Of the refusals that apply the lowest number is given; a length is asked for where the call
- * takes the slice. [P: checkReply, elcaReply, slcaReply, validReply, mergeElcaReply, mergeSlcaReply, reasonReply]
+ * THE WORDS OF A TEXT, for sq_build. A word is a longest run of ASCII letters and digits in the data of a node, or in an element's
+ * name at its first tag. Letters are compared without case. In data comments are dropped, so no<!--x-->rth is one word; and a
+ * reference is read as its character, so a&lt;b has the words a and b. In a name - . _ and : part words. End tags and comments
+ * have no words. A word stands at the node of its data or of its element. [P: documentWords]
+ *
+ * THE LENT QUERY, for sq_build: k words, one after the other, in upper or lower case; the same word may stand twice.
+ *   words        the bytes of all words, with nothing between them
+ *   word_ends    k entries: word j is words[word_ends[j - 1]] to words[word_ends[j] - 1], from 0 for word 0
+ *
+ * THE TABLE OF A TEXT'S WORDS, for sq_build: slots, as many as are lent.
+ *   a slot       0 where it is free; else one more than the place in the text of a word's first byte, where it stands first
+ *   which slot   each distinct word has one, in order of first appearance: that of its 32-bit FNV-1a hash modulo the slots, or the
+ *                next free one, where slot 0 follows the last. The hash is of its bytes in lower case, comments left out
+ * So a word is in the text exactly if a search from the slot of its hash on, slot after slot, meets it before a free slot and
+ * before all slots are met. Words with one hash are told apart by their bytes. [P: wordTable]
+ *
+ * REPLIES of all calls but sq_read and sq_build. Of the refusals that apply the lowest number is given; a length is asked for
+ * where the call takes the slice. [P: checkReply, elcaReply, slcaReply, validReply, mergeElcaReply, mergeSlcaReply, reasonReply]
  *   number      given exactly when                                                             place                  total
  *   SQ_OK       nothing below applies                                                          0                      the answers
  *   SQ_SIZE     n is not from 1 to 65,536, p not from 1 to 8, or k above 8; tags are not       0                      0
@@ -78,13 +95,30 @@
  *               data which is not white space
  *   SQ_ROOM     parents, tags, firsts or lasts is shorter than n, or work than 3 * n           0                      n
  *
- * BUFFERS of all calls but sq_read. The index is only read. Under SQ_SIZE nothing is touched. Under every other reply the
- * first (k + 2) * n entries of work are 0, or the first 64 of the stack, in every field, and the rest is untouched. out and own
- * are as lent under every refusal; under SQ_OK their first entries are written, and later entries stay. [P: workAfter,
+ * REPLIES of sq_build. SQ_SIZE goes before all others; of SQ_MARKUP and SQ_TREE the one whose byte comes first is given; SQ_ROOM
+ * comes last. [P: buildReply]
+ *   number      given exactly when                                                             place                  total
+ *   SQ_OK       nothing below applies                                                          0                      n
+ *   SQ_SIZE     text is longer than 16,777,216 bytes; k is not from 1 to 8; the first          0                      0
+ *               word end is 0, a later one not above the one before it, or the last not
+ *               words_len; or a byte of words is no letter and no digit
+ *   SQ_MARKUP   as in sq_read                                                                  this byte              0
+ *   SQ_TREE     as in sq_read                                                                  the lowest such node   0
+ *   SQ_ROOM     the text has more distinct words than there are slots; parents, tags,          0                      0
+ *               firsts or lasts is shorter than n, work than 3 * n, ends than k,
+ *               occurrences than all k lists together, or counts than k * n
+ *
+ * BUFFERS of all calls but sq_read and sq_build. The index is only read. Under SQ_SIZE nothing is touched. Under every other
+ * reply the first (k + 2) * n entries of work are 0, or the first 64 of the stack, in every field, and the rest is untouched. out
+ * and own are as lent under every refusal; under SQ_OK their first entries are written, and later entries stay. [P: workAfter,
  * stackAfter, elcaOut, elcaOwn, slcaOut, validOut, mergeElcaOut, mergeElcaOwn, mergeSlcaOut]
  * BUFFERS of sq_read. The text is only read. Under every refusal nothing is touched. Under SQ_OK the first n entries of
  * parents, tags, firsts and lasts are written, the first 3 * n of work are 0, and later entries of all five stay.
  * [P: Reads]
+ * BUFFERS of sq_build. The text, words and word_ends are only read. Under SQ_SIZE, SQ_MARKUP and SQ_TREE nothing is touched. Under
+ * SQ_ROOM every slot is 0, and all else is as lent. Under SQ_OK every slot is written; so are the first n entries of parents,
+ * tags, firsts and lasts, the first k of ends, the first ends[k - 1] of occurrences and the first k * n of counts; the first 3 * n
+ * of work are 0; and later entries of all eight stay. [P: Builds]
  *
  * ASKED OF C, which no proof can see: each pointer to numbers, or to the entries of a stack, is aligned for uint32_t, and each
  * pointer valid for its length, for writing too where it is not const; what may be written overlaps nothing else that is lent.
@@ -226,6 +260,29 @@ sq_explanation sq_reason(const uint32_t *parents, size_t parents_len, const uint
  * Buffers: under SQ_OK the rows of the tree, and work, as above. Under a refusal all are as lent. [P: Reads] */
 sq_reply sq_read(const uint8_t *text, size_t text_len, uint32_t *parents, size_t parents_len, uint32_t *tags, size_t tags_len,
                  uint32_t *firsts, size_t firsts_len, uint32_t *lasts, size_t lasts_len, uint32_t *work, size_t work_len);
+
+/* The builder: from the bytes of a text and the words of a query to an index, and the table of the text's words. n is how many
+ * nodes the text has, k is word_ends_len.
+ *   slots           the table of the words of the text, as above
+ *   parents, tags   the tree of the text; firsts and lasts its places, as sq_read gives them
+ *   occurrences     for each word of the query, in the query's order, the nodes at which it stands, increasing; none for a word
+ *                   that is not in the text, which is no refusal [P: listFor]
+ *   ends, counts    where each word's list ends, and all k * n counts, as in the lent index [P: endsFor, countsFor]
+ * These lengths never give SQ_ROOM: 65,536 of parents, tags, firsts and lasts, 196,608 of work, k of ends, k * 65,536 of
+ * occurrences and counts [P: buildReply]; and text_len / 2 slots, since each word of a text has a byte behind it that is of no
+ * word [T]. A build is quick where there are twice as many slots as distinct words, and slow where nearly all get filled.
+ * What to lend to a search then: of parents and tags n entries; p = k, q = 0; of ends k, of occurrences ends[k - 1] and of counts
+ * k * n entries; at least (k + 2) * n of work, which may be the same; and firsts and lasts say where an answer stands in the text.
+ * Such an index is never refused: with n entries in out and k * n in own sq_elca gives SQ_OK. [P: built-accepted]
+ * Replies: SQ_SIZE; SQ_MARKUP or SQ_TREE, whichever comes first in the text; SQ_ROOM with total 0; or SQ_OK with total n.
+ * [P: buildReply]
+ * Buffers: under SQ_OK as said. Under SQ_ROOM every slot is 0, and all else as lent; under another refusal all are as lent.
+ * [P: Builds] */
+sq_reply sq_build(const uint8_t *text, size_t text_len, const uint8_t *words, size_t words_len, const uint32_t *word_ends,
+                  size_t word_ends_len, uint32_t *slots, size_t slots_len, uint32_t *parents, size_t parents_len, uint32_t *tags,
+                  size_t tags_len, uint32_t *firsts, size_t firsts_len, uint32_t *lasts, size_t lasts_len, uint32_t *ends,
+                  size_t ends_len, uint32_t *occurrences, size_t occurrences_len, uint32_t *counts, size_t counts_len,
+                  uint32_t *work, size_t work_len);
 
 #ifdef __cplusplus
 }

@@ -9,6 +9,9 @@ ghost use Rattle.merge.specs.Merge.{MergedElca, MergedSlca};
 ghost use Rattle.reason.specs.Contracts.{ExplainedInNumbers};
 ghost use Rattle.reader.specs.Read.{Reads};
 ghost use Rattle.reader.specs.Read as read;
+ghost use Rattle.build.specs.Query.{query};
+ghost use Rattle.build.specs.Build.{Builds};
+ghost use Rattle.build.specs.Build as built;
 use engine::Entry;
 use index::Reply;
 use reason::Numbers;
@@ -172,4 +175,42 @@ pub extern "C" fn sq_read(
         (read.lent (now (parents .exit)) (now (tags .exit)) (now (firsts .exit)) (now (lasts .exit)) (now (work .exit))) ⌝ }
 {
     reader::read(text, parents, tags, firsts, lasts, work)
+}
+
+// XML text and the words of a query into the table of the text's words, the tree, and for each word of the query its list, its end and its counts.
+#[no_mangle]
+pub extern "C" fn sq_build(
+    text: &[u8],
+    words: &[u8],
+    word_ends: &[u32],
+    slots: &mut [u32],
+    parents: &mut [u32],
+    tags: &mut [u32],
+    firsts: &mut [u32],
+    lasts: &mut [u32],
+    ends: &mut [u32],
+    occurrences: &mut [u32],
+    counts: &mut [u32],
+    work: &mut [u32],
+) -> Reply
+    ensures { λ r. ⌜ Builds (now (text .entry)) (query (now (words .entry)) (now («word_ends» .entry)))
+        (built.lent (now (slots .entry)) (now (parents .entry)) (now (tags .entry)) (now (firsts .entry)) (now (lasts .entry)) (now (ends .entry))
+        (now (occurrences .entry)) (now (counts .entry)) (now (work .entry))) r
+        (built.lent (now (slots .exit)) (now (parents .exit)) (now (tags .exit)) (now (firsts .exit)) (now (lasts .exit)) (now (ends .exit))
+        (now (occurrences .exit)) (now (counts .exit)) (now (work .exit))) ⌝ }
+{
+    build::build(
+        text,
+        words,
+        word_ends,
+        slots,
+        parents,
+        tags,
+        firsts,
+        lasts,
+        ends,
+        occurrences,
+        counts,
+        work,
+    )
 }

@@ -1,0 +1,11 @@
+pub mod Words
+pub mod Table
+pub mod Room
+pub mod Calls
+pub mod Ends
+pub mod Accepted
+pub mod Reading
+pub mod Lists
+pub mod Elca
+pub mod Whole
+pub mod Cases
