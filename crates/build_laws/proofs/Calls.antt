@@ -202,16 +202,17 @@ module _ (T : List ℕ) (Q : Query) (l : Lent) (r : Reply) (b : Lent) (s : Build
   -- Whatever the slots are, the other slices are as they were.
   others-kept : (w : List ℕ) → b .slots ≡ w → b ≡ lent w (l .parents) (l .tags) (l .firsts) (l .lasts) (l .ends) (l .occurrences) (l .counts) (l .work)
   others-kept w e =
-      rw
-      (e,
-      kept (parentsOf (treeOf T)) (l .parents) (b .parents) (s .parents),
-      kept (tagsIn (treeOf T)) (l .tags) (b .tags) (s .tags),
-      kept (firstsOf (treeOf T)) (l .firsts) (b .firsts) (s .firsts),
-      kept (lastsOf (treeOf T)) (l .lasts) (b .lasts) (s .lasts),
-      kept (endsFor T Q (wordsOf Q)) (l .ends) (b .ends) (s .ends),
-      kept (listsTo T Q (wordsOf Q)) (l .occurrences) (b .occurrences) (s .occurrences),
-      kept (countsFor T Q (wordsOf Q)) (l .counts) (b .counts) (s .counts),
-      work-kept)
+      rw (
+        e,
+        kept (parentsOf (treeOf T)) (l .parents) (b .parents) (s .parents),
+        kept (tagsIn (treeOf T)) (l .tags) (b .tags) (s .tags),
+        kept (firstsOf (treeOf T)) (l .firsts) (b .firsts) (s .firsts),
+        kept (lastsOf (treeOf T)) (l .lasts) (b .lasts) (s .lasts),
+        kept (endsFor T Q (wordsOf Q)) (l .ends) (b .ends) (s .ends),
+        kept (listsTo T Q (wordsOf Q)) (l .occurrences) (b .occurrences) (s .occurrences),
+        kept (countsFor T Q (wordsOf Q)) (l .counts) (b .counts) (s .counts),
+        work-kept,
+      )
 
   pub refused-keeps : (r .refusal ≡ ROOM → ⊥) → b ≡ l
   refused-keeps m = others-kept (l .slots) (slots-left ∙ ap (λ z. cond z (blank (length (l .slots))) (l .slots)) (ne-eqb _ _ m))
