@@ -1,10 +1,6 @@
-pub mod Queries
-pub mod Gathering
-pub mod Hits
-pub mod Texts
-pub mod Passing
-pub mod Rows
-pub mod Sums
-pub mod Written
+mod Flagging
+mod Rows
+mod Sums
+mod Written
 pub mod Whole
 pub mod Replying

@@ -16,12 +16,14 @@ use Rattle.seq.specs.Lists.{sameList}
 use Rattle.seq.proofs.Laws.Bools.{bool-cases}
 use Rattle.index.specs.Index.{start}
 use Rattle.index.proofs.Laws.Cells.{cell-below}
+use Rattle.fnv.specs.Fnv.{hashOf}
 use Rattle.words.specs.Runs.{lower}
 use Rattle.words.specs.Reading.{wordAt}
-use Rattle.build.specs.Query.{Query, asked}
-use Rattle.build.specs.Build.{wordsOf}
+use Rattle.query.specs.Query.{Query, asked, wordsOf}
 use Rattle.build.specs.Inner.{Flags}
-use Rattle.build.proofs.Queries.{QueryKept, part-is, part-next}
+use Rattle.query.specs.Plain.{IsQuery}
+use Rattle.query.proofs.Kept.{part-is, part-next}
+use Rattle.query.proofs.Hashing.{asked-is}
 
 abbrev hit : List ℕ → ℕ → Query → ℕ → Bool
 hit T i Q j = sameList (asked Q j) (wordAt T i)
@@ -38,13 +40,14 @@ pub row-flags-start : (T : List ℕ) (i v : ℕ) (Q : Query) (n : ℕ) (c : List
 unfolding start
 row-flags-start T i v Q n c e = record { within = zero-le; long = e; begins = refl; row = omega arith; done = λ y u l. absurd (not-suc-le-zero l); rest = λ e l. refl }
 
-module _ (T : List ℕ) (i v : ℕ) (Q : Query) (n : ℕ) (c₀ c : List ℕ) (f r j : ℕ) (q : QueryKept Q) (s : RowFlags T i v Q n c₀ c f r j) (l : j < wordsOf Q) (b : v < n) where
+module _ (T : List ℕ) (i v : ℕ) (Q : Query) (n : ℕ) (c₀ c : List ℕ) (f r j : ℕ) (q : IsQuery Q) (s : RowFlags T i v Q n c₀ c f r j) (l : j < wordsOf Q) (b : v < n) where
   pub flag-fits : r + v < length c
   flag-fits = omega (arith, cell-below (wordsOf Q) n j v l b, s .row, s .long)
 
   -- What was asked, in the words of the query.
-  pub hit-is : (t : ℕ) → t ≡ getD (Q .ends) j 0 → sameList (map lower (take (t - f) (drop f (Q .words)))) (wordAt T i) ≡ hit T i Q j
-  hit-is t e = ap (λ w. sameList w (wordAt T i)) (part-is Q q j f t l (s .begins) e)
+  pub hit-is : (t : ℕ) → t ≡ getD (Q .ends) j 0 → (a h : ℕ) → a ≡ hashOf (wordAt T i) → h ≡ hashOf (asked Q j) →
+      (eqb a h && sameList (map lower (take (t - f) (drop f (Q .words)))) (wordAt T i)) ≡ hit T i Q j
+  hit-is t e a h own hash = ap (λ w. eqb a h && sameList w (wordAt T i)) (part-is Q q j f t l (s .begins) e) ∙ asked-is T i a (asked Q j) h own hash
 
   next-row : r + n ≡ (j + 1) * n
   next-row = omega (arith, s .row, add-mul j 1 n, one-mul n)
@@ -91,5 +94,5 @@ pub row-flags-end : (T : List ℕ) (i v : ℕ) (Q : Query) (n : ℕ) (c₀ c : L
 row-flags-end T i v Q n c₀ c f r j s l = record { long = s .long; each = λ y u a b. s .done y u (omega (arith, s .within)) b }
 
 -- No row begins too far on.
-pub row-small : (T : List ℕ) (i v : ℕ) (Q : Query) (n : ℕ) (c₀ c : List ℕ) (f r j : ℕ) → QueryKept Q → RowFlags T i v Q n c₀ c f r j → n ≤ 65536 → r + n ≤ 589824
+pub row-small : (T : List ℕ) (i v : ℕ) (Q : Query) (n : ℕ) (c₀ c : List ℕ) (f r j : ℕ) → IsQuery Q → RowFlags T i v Q n c₀ c f r j → n ≤ 65536 → r + n ≤ 589824
 row-small T i v Q n c₀ c f r j q s l = omega (arith, s .row, mul-le-mul-right {m = j} {n = 8} n (omega (arith, s .within, q .few)))

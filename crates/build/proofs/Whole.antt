@@ -1,5 +1,4 @@
 -- The parts of `build` put together.
---   room-tree, room-ends, room-counts   the ways out of `has_room`;  roomy-of: what fits where it gives true
 --   row-list, flag-lists      the nodes that are flagged are the lists
 --   count-row                 the sums of flags are the counts
 --   write-flags, write-lists, write-sums, written   what `write` needs and leaves
@@ -7,16 +6,14 @@
 use Prim.Native.Nat.{ℕ, zero, suc, _+_, _*_, _/_, _%_, _≤_, _<_}
 use mathlib.Core.Path.{_≡_, refl, sym, ap, ap₂, subst, _∙_}
 use mathlib.Core.List.{List, [], _∷_, _++_}
-use mathlib.Core.Bool.{Bool, true, false, cond, _&&_}
-use native.Mathlib.Nat.{mul-le-mul-right, div-lt-iff-lt-mul, mod-lt, div-add-mod'}
+use mathlib.Core.Bool.{Bool, true, false, cond}
+use native.Mathlib.Nat.{div-lt-iff-lt-mul, mod-lt, div-add-mod'}
 use native.Mathlib.Omega.{arith}
-use lib.Dec.{eqb, leb}
+use lib.Dec.{eqb}
 use lib.ListN.{length, getD, drop, length-map, length-drop}
 use lib.Seq.{getD-take, getD-drop, ext-getD, length-take-le}
-use borrow.Author.Tests.{lt-leb, le-leb, leb-true}
 use Rattle.seq.specs.Below.{sumBelow, tabulate, gather, listed}
 use Rattle.seq.specs.Lists.{tally}
-use Rattle.seq.proofs.Laws.Bools.{and-left, and-right, and-false-left, and-false-right}
 use Rattle.seq.proofs.Laws.Numbers.{row-le, product-some}
 use Rattle.seq.proofs.Laws.Sums.{sum-ext}
 use Rattle.seq.proofs.Laws.Lists.{tally-sum}
@@ -32,47 +29,16 @@ use Rattle.listing.specs.Listing.{flagged, flaggedRows}
 use Rattle.profile.specs.Reader.{treeOf}
 use Rattle.judge.specs.Judge.{judgeReply}
 use Rattle.judge.proofs.Meaning.{accepted-total}
-use Rattle.reader.specs.Read.{fits, parentsOf, tagsIn}
+use Rattle.reader.specs.Read.{parentsOf, tagsIn}
 use Rattle.reader_laws.proofs.Reading.{read-lawful}
 use Rattle.words.specs.Stands.{stands}
-use Rattle.build.specs.Query.{Query, asked}
-use Rattle.build.specs.Build.{listFor, listsTo, endsFor, countsFor, wordsOf}
-use Rattle.build.specs.Inner.{roomy, rowOf, flagLists, FlagAllPre, FlagsAll, ListsPre, ListsWritten, SumRowsPre, SumsRows, WritePre, Written}
-use Rattle.build.proofs.Queries.{QueryKept, query-kept}
-use Rattle.build.proofs.Texts.{TextKept, text-kept}
-
--- ---- has_room
-pub small-product : (k n : ℕ) → k ≤ 8 → n ≤ 65536 → k * n ≤ 524288
-small-product k n a b = omega (arith, mul-le-mul-right {m = k} {n = 8} n a, b)
-
-module _ (n k p t f l w e c : ℕ) where
-  pub room-tree : fits n p t f l w ≡ false → false ≡ roomy n k p t f l w e c
-  unfolding roomy
-  room-tree h = sym (and-false-left _ _ h)
-
-  pub room-ends : e < k → false ≡ roomy n k p t f l w e c
-  unfolding roomy
-  room-ends h = sym (and-false-right (fits n p t f l w) _ (and-false-left _ _ (lt-leb k e h)))
-
-  pub room-counts : fits n p t f l w ≡ true → k ≤ e → leb (k * n) c ≡ roomy n k p t f l w e c
-  unfolding roomy
-  room-counts h g = sym (ap₂ (λ x y. x && (y && leb (k * n) c)) h (le-leb k e g))
-
-  -- What fits, where all does.
-  pub record Roomy : Type 0 where
-    pub tree : fits n p t f l w ≡ true
-    pub ends : k ≤ e
-    pub counts : k * n ≤ c
-
-  pub roomy-of : roomy n k p t f l w e c ≡ true → Roomy
-  unfolding roomy
-  roomy-of h =
-      let rest : (leb k e && leb (k * n) c) ≡ true = and-right (fits n p t f l w) (leb k e && leb (k * n) c) h in
-      record {
-        tree = and-left (fits n p t f l w) (leb k e && leb (k * n) c) h;
-        ends = leb-true k e (and-left (leb k e) (leb (k * n) c) rest);
-        counts = leb-true (k * n) c (and-right (leb k e) (leb (k * n) c) rest);
-      }
+use Rattle.query.specs.Query.{Query, asked, wordsOf}
+use Rattle.plan.specs.Lists.{listFor, listsTo}
+use Rattle.build.specs.Build.{endsFor, countsFor}
+use Rattle.build.specs.Inner.{rowOf, flagLists, FlagAllPre, FlagsAll, ListsPre, ListsWritten, SumRowsPre, SumsRows, WritePre, Written}
+use Rattle.query.specs.Plain.{IsQuery}
+use Rattle.query.proofs.Kept.{query-kept}
+use Rattle.plan.proofs.Texts.{TextKept, text-kept}
 
 -- ---- a text that is accepted
 pub parents-long : (T : List ℕ) → length (parentsOf (treeOf T)) ≡ length (treeOf T)
@@ -125,7 +91,7 @@ module _ (T : List ℕ) (Q : Query) (p e o c : List ℕ) (pre : WritePre T Q p e
   nodes-is : length p ≡ length (treeOf T)
   nodes-is = ap length (pre .parents) ∙ parents-long T
 
-  q : QueryKept Q
+  q : IsQuery Q
   q = query-kept Q (pre .ok)
 
   t : TextKept T

@@ -1,51 +1,28 @@
--- What building an index from a text replies, and what it leaves in each buffer (02, Q-5).
---   placesOf M           == the places of the mentions M
---   wordTable T m        == the table of the words of the text T in m slots; none where the distinct words outnumber the slots
---   listFor T Q j        == the list of the query's word j: the nodes at which it stands, in increasing number
---   listsTo T Q k        == the lists of the first k words, one after the other
+-- What building an index from a text leaves in each buffer (02, Q-5).
 --   endsFor, countsFor   == the ends of the lists of k words, and all their counts
---   Lent                 == what is lent to be written
---   enough T Q l         == all that is written fits: the tree as for the reader, the table, the ends, the lists and the counts
---   buildReply T Q l     == the reply: SIZE, then what the judge of the text says, then ROOM with total 0, or acceptance with the nodes
---   slotsAfter           == the table after the reply r: filled where it is accepted, zero under ROOM, else as lent
+--   Lent                 == what is lent to be written;  sizes: how much of it
+--   buildReply T Q l     == the reply: SIZE, then what the judge of the text says, then ROOM with total 0, or acceptance with the nodes, as `plan` has it
 --   Builds T Q l r b     == the call's promise: the reply r, and what is lent afterwards, b
 -- Letters: T text, Q query, k words, l b what is lent, before and after, r reply. Assumes nothing.
-use Prim.Native.Nat.{ℕ, zero, suc, _*_, _/_, _%_}
+use Prim.Native.Nat.{ℕ, suc, _*_, _/_, _%_}
 use mathlib.Core.Path.{_≡_}
-use mathlib.Core.List.{List, [], _++_, map}
-use mathlib.Core.Bool.{Bool, true, false, cond, _&&_}
-use mathlib.Core.Option.{Option, none, some}
-use lib.Dec.{eqb, leb}
+use mathlib.Core.List.{List}
+use mathlib.Core.Bool.{cond}
+use lib.Dec.{eqb}
 use lib.ListN.{length}
-use Rattle.seq.specs.Below.{tabulate, listed}
+use Rattle.seq.specs.Below.{tabulate}
 use Rattle.seq.specs.Memory.{zeroed}
 use Rattle.index.specs.Index.{countUnder}
 use Rattle.index.specs.declared.Reply.{Reply}
-use Rattle.index.specs.Replies.{accepted, SIZE, ROOM, refused, keptOr}
+use Rattle.index.specs.Replies.{accepted, keptOr}
 use Rattle.profile.specs.Reader.{treeOf}
-use Rattle.judge.specs.Judge.{judgeReply}
-use Rattle.reader.specs.Read.{fits, parentsOf, tagsIn, firstsOf, lastsOf}
-use Rattle.words.specs.Places.{Mention}
-use Rattle.words.specs.Scan.{mentionsIn}
-use Rattle.words.specs.Stands.{stands}
-use Rattle.probing.specs.Table.{blank}
-use Rattle.dictionary.specs.Slots.{tableOf}
-use Rattle.build.specs.Query.{Query, asked, queryOk}
+use Rattle.reader.specs.Read.{parentsOf, tagsIn, firstsOf, lastsOf}
+use Rattle.query.specs.Query.{Query, wordsOf}
+use Rattle.plan.specs.declared.Sizes.{Sizes}
+use Rattle.plan.specs.Lists.{listFor, listsTo}
+use Rattle.plan.specs.Plan.{planReply, slotsAfter}
 
--- ---- what is built
-abbrev pub placesOf : List Mention → List ℕ
-placesOf M = map (λ (m : Mention). m .place) M
-
-unfoldable pub wordTable : List ℕ → ℕ → Option (List ℕ)
-wordTable T m = tableOf T m (placesOf (mentionsIn T))
-
-unfoldable pub listFor : List ℕ → Query → ℕ → List ℕ
-listFor T Q j = listed (length (treeOf T)) (stands T (asked Q j))
-
-unfoldable pub listsTo : List ℕ → Query → ℕ → List ℕ
-listsTo T Q zero = []
-listsTo T Q (suc j) = listsTo T Q j ++ listFor T Q j
-
+-- ---- what is built, beside the table, the tree and the lists
 unfoldable pub endsFor : List ℕ → Query → ℕ → List ℕ
 endsFor T Q k = tabulate k λ j. length (listsTo T Q (suc j))
 
@@ -68,36 +45,21 @@ pub record Lent : Type 0 where
 abbrev pub lent : List ℕ → List ℕ → List ℕ → List ℕ → List ℕ → List ℕ → List ℕ → List ℕ → List ℕ → Lent
 lent s p t f l e o c w = record { slots = s; parents = p; tags = t; firsts = f; lasts = l; ends = e; occurrences = o; counts = c; work = w }
 
--- Whether there is a table, and which slots are left where there may be none.
-abbrev pub made : Option (List ℕ) → Bool
-made none = false
-made (some w) = true
+abbrev pub sizes : Lent → Sizes
+sizes l =
+    record {
+      parents = length (l .parents);
+      tags = length (l .tags);
+      firsts = length (l .firsts);
+      lasts = length (l .lasts);
+      ends = length (l .ends);
+      occurrences = length (l .occurrences);
+      counts = length (l .counts);
+      work = length (l .work);
+    }
 
-abbrev pub tableOr : List ℕ → Option (List ℕ) → List ℕ
-tableOr w none = w
-tableOr w (some v) = v
-
-abbrev pub wordsOf : Query → ℕ
-wordsOf Q = length (Q .ends)
-
-abbrev pub treeFits : ℕ → Lent → Bool
-treeFits n l = fits n (length (l .parents)) (length (l .tags)) (length (l .firsts)) (length (l .lasts)) (length (l .work))
-
-unfoldable pub enough : List ℕ → Query → Lent → Bool
-enough T Q l =
-    (treeFits (length (treeOf T)) l && (leb (wordsOf Q) (length (l .ends)) && leb (wordsOf Q * length (treeOf T)) (length (l .counts)))) &&
-    (made (wordTable T (length (l .slots))) && leb (length (listsTo T Q (wordsOf Q))) (length (l .occurrences)))
-
--- ---- the reply
-unfoldable pub buildReply : List ℕ → Query → Lent → Reply
-buildReply T Q l =
-    cond (queryOk Q)
-    (cond (eqb (judgeReply T .refusal) accepted) (cond (enough T Q l) (judgeReply T) (refused ROOM 0)) (judgeReply T))
-    (refused SIZE 0)
-
-unfoldable pub slotsAfter : List ℕ → List ℕ → Reply → List ℕ
-slotsAfter T s r =
-    cond (eqb (r .refusal) accepted) (tableOr s (wordTable T (length s))) (cond (eqb (r .refusal) ROOM) (blank (length s)) s)
+abbrev pub buildReply : List ℕ → Query → Lent → Reply
+buildReply T Q l = planReply T Q (length (l .slots)) (sizes l)
 
 -- ---- the promise
 pub record Builds (T : List ℕ) (Q : Query) (l : Lent) (r : Reply) (b : Lent) : Type 0 where

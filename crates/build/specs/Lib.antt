@@ -1,3 +1,2 @@
-pub mod Query
 pub mod Build
 pub mod Inner

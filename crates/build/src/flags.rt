@@ -1,7 +1,6 @@
 // The second pass over the words of a text: in the counts, each node at which a word of the query stands gets a flag of 1.
-ghost use Rattle.build.specs.Query.{query};
+ghost use Rattle.query.specs.Query.{query};
 ghost use Rattle.build.specs.Inner.{FlagPre, Flags, FlagWordsPre, FlagAllPre, FlagsAll};
-use crate::asked;
 
 // Flags the node for each word of the query that stands at a place of the text. Word j's flags are the n entries from j * n on.
 fn flag(
@@ -23,7 +22,7 @@ fn flag(
     let mut j: usize = 0;
     while j < ends.len() {
         let to = seq::widen(ends[j]);
-        if asked::is_asked(text, at, own, &words[from..to], hashes[j]) {
+        if query::is_asked(text, at, own, &words[from..to], hashes[j]) {
             counts[row + node] = 1;
         }
         from = to;
@@ -72,7 +71,7 @@ pub(crate) fn flag_all(text: &[u8], words: &[u8], ends: &[u32], n: usize, counts
     ensures { λ r. ⌜ FlagsAll (now (text .entry)) (query (now (words .entry)) (now (ends .entry))) n (now (counts .exit)) ⌝ }
 {
     let mut hashes = [0u32; 8];
-    asked::hash_words(words, ends, &mut hashes);
+    query::hash_words(words, ends, &mut hashes);
     seq::clear(&mut *counts);
     flag_words(text, words, ends, &hashes, n, &mut *counts);
 }

@@ -1,38 +1,11 @@
 // An index built from a text and the words of a query (02, Q-5): the table of the text's words, the tree, and for each word of the query its list, its end and its counts.
 // One entry point, `build`: SIZE, then MARKUP or TREE, whichever comes first in the text, then ROOM. Slices of any length and any content may be lent.
-mod asked;
 mod flags;
-mod gather;
 mod lists;
 
-ghost use mathlib.Core.Path.{_≡_};
-ghost use Rattle.build.specs.Query.{query};
+ghost use Rattle.query.specs.Query.{query};
 ghost use Rattle.build.specs.Build.{lent, Builds};
-ghost use Rattle.build.specs.Inner.{roomy, RoomPre, NoRoom, WritePre, Written};
-
-// Whether n nodes and k words fit the rows of the tree, the reader's work, the ends and the counts.
-fn has_room(
-    n: usize,
-    k: usize,
-    parents: usize,
-    tags: usize,
-    firsts: usize,
-    lasts: usize,
-    work: usize,
-    ends: usize,
-    counts: usize,
-) -> bool
-    requires { ⌜ RoomPre n k ⌝ }
-    ensures { λ r. ⌜ r ≡ roomy n k parents tags firsts lasts work ends counts ⌝ }
-{
-    if !reader::has_room(n, parents, tags, firsts, lasts, work) {
-        return false;
-    }
-    if ends < k {
-        return false;
-    }
-    k * n <= counts
-}
+ghost use Rattle.build.specs.Inner.{WritePre, Written};
 
 // Writes lists, ends and counts, over slices that are as long as these, for a text that the judge has accepted and the parents that were read from it.
 fn write(
@@ -51,18 +24,6 @@ fn write(
     flags::flag_all(text, words, word_ends, n, &mut *counts);
     lists::write_lists(&*counts, n, &mut *ends, &mut *occurrences);
     lists::sum_rows(parents, word_ends.len(), &mut *counts);
-}
-
-// ROOM: the table is zero, and the total 0.
-fn no_room(slots: &mut [u32]) -> index::Reply
-    ensures { λ r. ⌜ NoRoom (now (slots .entry)) r (now (slots .exit)) ⌝ }
-{
-    seq::clear(&mut *slots);
-    index::Reply {
-        refusal: index::ROOM,
-        place: 0,
-        total: 0,
-    }
 }
 
 // Builds the index of a text for the words of a query, which are lent as bytes and ends. The total is the number of nodes, n; k is the number of words.
@@ -89,40 +50,28 @@ pub fn build(
         (lent (now (slots .entry)) (now (parents .entry)) (now (tags .entry)) (now (firsts .entry)) (now (lasts .entry)) (now (ends .entry)) (now (occurrences .entry)) (now (counts .entry)) (now (work .entry))) r
         (lent (now (slots .exit)) (now (parents .exit)) (now (tags .exit)) (now (firsts .exit)) (now (lasts .exit)) (now (ends .exit)) (now (occurrences .exit)) (now (counts .exit)) (now (work .exit))) ⌝ }
 {
-    if !asked::is_query(words, word_ends) {
-        return index::Reply {
-            refusal: index::SIZE,
-            place: 0,
-            total: 0,
-        };
+    let p = plan::plan(
+        text,
+        words,
+        word_ends,
+        &mut *slots,
+        plan::Sizes {
+            parents: parents.len(),
+            tags: tags.len(),
+            firsts: firsts.len(),
+            lasts: lasts.len(),
+            ends: ends.len(),
+            occurrences: occurrences.len(),
+            counts: counts.len(),
+            work: work.len(),
+        },
+    );
+    if p.reply.refusal != index::ACCEPTED {
+        return p.reply;
     }
-    let r = judge::judge(text);
-    if r.refusal != index::ACCEPTED {
-        return r;
-    }
-    let n = seq::widen(r.total);
+    let n = seq::widen(p.reply.total);
     let k = word_ends.len();
-    if !has_room(
-        n,
-        k,
-        parents.len(),
-        tags.len(),
-        firsts.len(),
-        lasts.len(),
-        work.len(),
-        ends.len(),
-        counts.len(),
-    ) {
-        return no_room(slots);
-    }
-    let g = gather::gather(text, words, word_ends, &mut *slots);
-    if !g.fits {
-        return no_room(slots);
-    }
-    let total = g.total;
-    if occurrences.len() < total {
-        return no_room(slots);
-    }
+    let total = p.total;
     let read = reader::read(
         text,
         &mut *parents,

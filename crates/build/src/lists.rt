@@ -1,5 +1,5 @@
 // The lists of the query's words with their ends, from the flags; and then the counts, in the place of the flags.
-ghost use Rattle.build.specs.Query.{query};
+ghost use Rattle.query.specs.Query.{query};
 ghost use Rattle.build.specs.Inner.{ListsPre, ListsWritten, SumRowPre, SumsRow, SumRowsPre, SumsRows};
 
 // Writes each word's list behind the one before, and where it ends. Word j's flags are the n entries of `flags` from j * n on.

@@ -43,14 +43,17 @@ use Rattle.reader.proofs.Reading.{tags-count}
 use Rattle.reader_laws.proofs.Reading.{read-lawful}
 use Rattle.words.specs.Stands.{stands}
 use Rattle.probing.specs.Table.{blank}
-use Rattle.build.specs.Query.{Query, asked, queryOk}
-use Rattle.build.specs.Build.{Lent, wordTable, listFor, listsTo, endsFor, countsFor, made, tableOr, wordsOf, slotsAfter, Builds}
-use Rattle.build.proofs.Queries.{QueryKept, query-kept}
-use Rattle.build.proofs.Texts.{text-kept}
+use Rattle.query.specs.Query.{Query, asked, queryOk, wordsOf}
+use Rattle.plan.specs.Lists.{wordTable, listFor, listsTo, made, tableOr}
+use Rattle.plan.specs.Plan.{slotsAfter}
+use Rattle.build.specs.Build.{Lent, sizes, endsFor, countsFor, Builds}
+use Rattle.query.specs.Plain.{IsQuery}
+use Rattle.query.proofs.Kept.{query-kept}
+use Rattle.plan.proofs.Texts.{text-kept}
 use Rattle.build.proofs.Whole.{parents-long}
 use Rattle.build_laws.specs.Calls.{handed, built}
-use Rattle.build_laws.proofs.Room.{table-made}
-use Rattle.build_laws.proofs.Calls.{Passed, passed-of}
+use Rattle.build_laws.proofs.Room.{table-made, enough-plain}
+use Rattle.plan.proofs.Tests.{Passed, passed-of}
 use Rattle.build_laws.proofs.Ends.{lists-le, end-is, start-is, list-is}
 
 -- ---- the tree
@@ -139,7 +142,7 @@ module _ (T : List ℕ) (Q : Query) where
         roomy = omega (arith, h, ap₂ (λ (x y : ℕ). (x + 2) * y) one (sym (parents-long T)));
       }
     where
-      q : QueryKept Q
+      q : IsQuery Q
       q = query-kept Q o
 
       one : wordsOf Q ≡ wordsOf Q + 0
@@ -151,15 +154,15 @@ unfolding over
 front n new old e = take-at new (drop (length new) old) n e
 
 module _ (T : List ℕ) (Q : Query) (l : Lent) (r : Reply) (b : Lent) (s : Builds T Q l r b) (e : r .refusal ≡ accepted) where
-  pub built-passed : Passed T Q l
-  built-passed = passed-of T Q l (sym (ap (λ (r : Reply). r .refusal) (s .reply)) ∙ e)
+  pub built-passed : Passed T Q (length (l .slots)) (sizes l)
+  built-passed = passed-of T Q (length (l .slots)) (sizes l) (sym (ap (λ (r : Reply). r .refusal) (s .reply)) ∙ e)
 
   pub total-nodes : r .total ≡ length (treeOf T)
   total-nodes = ap (λ (r : Reply). r .total) (s .reply ∙ built-passed .reply) ∙ text-kept T (built-passed .judge) .total
 
   pub built-table : wordTable T (length (l .slots)) ≡ some (b .slots)
   unfolding slotsAfter
-  built-table = by (wordTable T (length (l .slots))) (table-made T (length (l .slots)) .1 (built-passed .room .words))
+  built-table = by (wordTable T (length (l .slots))) (table-made T (length (l .slots)) .1 (enough-plain T Q l .0 (built-passed .room) .words))
       (s .slots ∙ ap (λ z. cond z (tableOr (l .slots) (wordTable T (length (l .slots)))) (cond (eqb (r .refusal) ROOM) (blank (length (l .slots))) (l .slots))) (eq-eqb _ _ e))
     where
       by : (o : Option (List ℕ)) → made o ≡ true → b .slots ≡ tableOr (l .slots) o → o ≡ some (b .slots)

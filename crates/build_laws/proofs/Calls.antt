@@ -9,21 +9,15 @@
 --   refused-keeps   under a refusal but ROOM everything is as it was
 --   room-keeps      under ROOM the slots are zero, and everything else is as it was
 -- Letters: T text, Q query, l b what is lent, before and after, r reply; n nodes, i a place, v a node. Assumes nothing.
-use Prim.Native.Nat.{ℕ, suc, pred, _*_, _<_}
-use mathlib.Core.Path.{_≡_, refl, sym, ap, ap₂, subst, _∙_}
+use Prim.Native.Nat.{ℕ, _*_, _<_}
+use mathlib.Core.Path.{_≡_, refl, sym, ap, _∙_}
 use mathlib.Core.Logic.{_⊎_, inl, inr, _↔_}
-use mathlib.Core.List.{List, [], _∷_}
-use mathlib.Core.Bool.{Bool, true, false, cond, _&&_, false≢true}
-use native.Mathlib.Omega.{arith}
-use lib.Dec.{eqb, leb}
-use lib.ListN.{length, getD}
-use borrow.Author.Tests.{eq-eqb, ne-eqb, eqb-true, eqb-false, lt-ltb, le-leb}
-use Rattle.seq.specs.Lists.{everyOf}
+use mathlib.Core.List.{List}
+use mathlib.Core.Bool.{Bool, true, false, cond, false≢true}
+use lib.Dec.{eqb}
+use lib.ListN.{length}
+use borrow.Author.Tests.{eq-eqb, ne-eqb, eqb-true, eqb-false}
 use Rattle.seq.specs.Memory.{zeroed}
-use Rattle.seq.proofs.Laws.Bools.{and-right, and-both}
-use Rattle.seq.proofs.Laws.Below.{every-of}
-use Rattle.seq.proofs.Laws.Lists.{everyOf-at}
-use Rattle.index.specs.Index.{start}
 use Rattle.index.specs.Replies.{accepted, SIZE, TREE, ROOM, refused, totalled, keptOr}
 use Rattle.index.specs.declared.Reply.{Reply}
 use Rattle.index.proofs.Laws.Replies.{kept-refused}
@@ -32,76 +26,28 @@ use Rattle.judge.specs.Judge.{MARKUP, longest, judgeReply}
 use Rattle.judge.specs.Meaning.{BrokenAt, OverAt}
 use Rattle.judge.proofs.Meaning.{size-means, size-given, no-room, accepted-total, accepted-means, accepted-given, markup-means, markup-given, tree-means, tree-given}
 use Rattle.reader.specs.Read.{parentsOf, tagsIn, firstsOf, lastsOf}
-use Rattle.words.specs.Runs.{wordByte}
 use Rattle.probing.specs.Table.{blank}
-use Rattle.build.specs.Query.{Query, rises, queryOk}
-use Rattle.build.specs.Build.{Lent, lent, wordTable, listsTo, endsFor, countsFor, tableOr, wordsOf, enough, buildReply, slotsAfter, Builds}
-use Rattle.build.proofs.Queries.{query-kept}
-use Rattle.build_laws.specs.Calls.{IsQuery, Enough, Taken, Cramped}
+use Rattle.query.specs.Query.{Query, wordsOf}
+use Rattle.plan.specs.Lists.{wordTable, listsTo, tableOr}
+use Rattle.plan.specs.Plan.{slotsAfter}
+use Rattle.build.specs.Build.{Lent, sizes, lent, endsFor, countsFor, buildReply, Builds}
+use Rattle.query.specs.Plain.{IsQuery}
+use Rattle.query.proofs.Kept.{query-plain}
+use Rattle.plan.proofs.Tests.{replied, Tests, by-tests}
+use Rattle.build_laws.specs.Calls.{Taken, Cramped}
 use Rattle.build_laws.proofs.Room.{enough-plain}
-
--- ---- the query
-letters-of : (l : List ℕ) → ((i : ℕ) → i < length l → wordByte (getD l i 0) ≡ true) → everyOf wordByte l ≡ true
-unfolding everyOf
-letters-of [] h = refl
-letters-of (x ∷ l) h = and-both (wordByte x) (everyOf wordByte l) (h 0 (omega arith)) (letters-of l (λ i g. h (suc i) (omega arith)))
-
-query-letters : (Q : Query) → queryOk Q ≡ true → everyOf wordByte (Q .words) ≡ true
-unfolding queryOk
-query-letters Q e =
-    and-right (eqb (getD (Q .ends) (pred (wordsOf Q)) 0) (length (Q .words))) _
-    (and-right (rises (Q .ends)) _ (and-right (leb 1 (wordsOf Q) && leb (wordsOf Q) 8) _ e))
-
-query-of : (Q : Query) → IsQuery Q → queryOk Q ≡ true
-unfolding queryOk rises
-query-of Q q =
-    and-both _ _ (and-both _ _ (le-leb 1 (wordsOf Q) (q .some)) (le-leb (wordsOf Q) 8 (q .few)))
-    (and-both _ _ (every-of (wordsOf Q) _ (λ j l. lt-ltb (start (Q .ends) j) (getD (Q .ends) j 0) (q .notEmpty j l)))
-    (and-both _ _ (eq-eqb _ _ (q .last)) (letters-of (Q .words) (q .letters))))
-
-pub query-plain : (Q : Query) → (queryOk Q ≡ true) ↔ IsQuery Q
-query-plain Q = (
-  λ e. let q = query-kept Q e in
-      record { some = q .some; few = q .few; notEmpty = q .rising; last = q .last; letters = everyOf-at wordByte (Q .words) 0 (query-letters Q e) },
-  query-of Q,
-)
-
--- ---- the tests of a reply
-module _ (T : List ℕ) (Q : Query) (l : Lent) where
-  abbrev judge : Reply
-  judge = judgeReply T
-
-  abbrev replied : Bool → Bool → Bool → Reply
-  replied x y z = cond x (cond y (cond z judge (refused ROOM 0)) judge) (refused SIZE 0)
-
-  record Tests (x y z : Bool) : Type 0 where
-    query : queryOk Q ≡ x
-    text : eqb (judge .refusal) accepted ≡ y
-    room : enough T Q l ≡ z
-
-  reply-by : (x y z : Bool) → Tests x y z → buildReply T Q l ≡ replied x y z
-  unfolding buildReply
-  reply-by x y z t =
-      ap (λ x. replied x (eqb (judge .refusal) accepted) (enough T Q l)) (t .query) ∙ ap₂ (replied x) (t .text) (t .room)
-
-  -- What holds of the reply of each outcome of the tests holds of the reply.
-  by-tests : (P : Reply → Type 0) → ((x y z : Bool) → Tests x y z → P (replied x y z)) → P (buildReply T Q l)
-  by-tests P f = subst P (sym (reply-by _ _ _ all)) (f (queryOk Q) (eqb (judge .refusal) accepted) (enough T Q l) all)
-    where
-      all : Tests (queryOk Q) (eqb (judge .refusal) accepted) (enough T Q l)
-      all = record { query = refl; text = refl; room = refl }
 
 -- ---- SIZE
 pub size-first : (T : List ℕ) (Q : Query) (l : Lent) → (buildReply T Q l ≡ refused SIZE 0) ↔ ((IsQuery Q → ⊥) ⊎ (longest < length T))
-size-first T Q l = (by-tests T Q l (λ r. r ≡ refused SIZE 0 → (IsQuery Q → ⊥) ⊎ (longest < length T)) to, by-tests T Q l (λ r. (IsQuery Q → ⊥) ⊎ (longest < length T) → r ≡ refused SIZE 0) back)
+size-first T Q l = (by-tests T Q (length (l .slots)) (sizes l) (λ r. r ≡ refused SIZE 0 → (IsQuery Q → ⊥) ⊎ (longest < length T)) to, by-tests T Q (length (l .slots)) (sizes l) (λ r. (IsQuery Q → ⊥) ⊎ (longest < length T) → r ≡ refused SIZE 0) back)
   where
-    to : (x y z : Bool) → Tests T Q l x y z → replied T Q l x y z ≡ refused SIZE 0 → (IsQuery Q → ⊥) ⊎ (longest < length T)
+    to : (x y z : Bool) → Tests T Q (length (l .slots)) (sizes l) x y z → replied T Q (length (l .slots)) (sizes l) x y z ≡ refused SIZE 0 → (IsQuery Q → ⊥) ⊎ (longest < length T)
     to true true true t e = inr (size-means T e)
     to true true false t e = absurd (eqb-false 5 1 refl (ap (λ (r : Reply). r .refusal) e))
     to true false z t e = inr (size-means T e)
     to false y z t e = inl (λ q. false≢true (sym (t .query) ∙ query-plain Q .1 q))
 
-    back : (x y z : Bool) → Tests T Q l x y z → (IsQuery Q → ⊥) ⊎ (longest < length T) → replied T Q l x y z ≡ refused SIZE 0
+    back : (x y z : Bool) → Tests T Q (length (l .slots)) (sizes l) x y z → (IsQuery Q → ⊥) ⊎ (longest < length T) → replied T Q (length (l .slots)) (sizes l) x y z ≡ refused SIZE 0
     back true y z t (inl n) = absurd (n (query-plain Q .0 (t .query)))
     back true true z t (inr h) = absurd (eqb-false 1 0 refl (sym (ap (λ (r : Reply). r .refusal) (size-given T h)) ∙ eqb-true _ _ (t .text)))
     back true false z t (inr h) = size-given T h
@@ -111,15 +57,15 @@ size-first T Q l = (by-tests T Q l (λ r. r ≡ refused SIZE 0 → (IsQuery Q �
 -- A refusal but SIZE and ROOM is the judge's.
 judged : (T : List ℕ) (Q : Query) (l : Lent) (r : Reply) → (r .refusal ≡ accepted → ⊥) → (r .refusal ≡ SIZE → ⊥) → (r .refusal ≡ ROOM → ⊥) →
     (buildReply T Q l ≡ r) ↔ (IsQuery Q × (judgeReply T ≡ r))
-judged T Q l r a b c = (by-tests T Q l (λ o. o ≡ r → IsQuery Q × (judgeReply T ≡ r)) to, by-tests T Q l (λ o. IsQuery Q × (judgeReply T ≡ r) → o ≡ r) back)
+judged T Q l r a b c = (by-tests T Q (length (l .slots)) (sizes l) (λ o. o ≡ r → IsQuery Q × (judgeReply T ≡ r)) to, by-tests T Q (length (l .slots)) (sizes l) (λ o. IsQuery Q × (judgeReply T ≡ r) → o ≡ r) back)
   where
-    to : (x y z : Bool) → Tests T Q l x y z → replied T Q l x y z ≡ r → IsQuery Q × (judgeReply T ≡ r)
+    to : (x y z : Bool) → Tests T Q (length (l .slots)) (sizes l) x y z → replied T Q (length (l .slots)) (sizes l) x y z ≡ r → IsQuery Q × (judgeReply T ≡ r)
     to true true true t e = (query-plain Q .0 (t .query), e)
     to true true false t e = absurd (c (sym (ap (λ (r : Reply). r .refusal) e)))
     to true false z t e = (query-plain Q .0 (t .query), e)
     to false y z t e = absurd (b (sym (ap (λ (r : Reply). r .refusal) e)))
 
-    back : (x y z : Bool) → Tests T Q l x y z → IsQuery Q × (judgeReply T ≡ r) → replied T Q l x y z ≡ r
+    back : (x y z : Bool) → Tests T Q (length (l .slots)) (sizes l) x y z → IsQuery Q × (judgeReply T ≡ r) → replied T Q (length (l .slots)) (sizes l) x y z ≡ r
     back true true z t e = absurd (a (sym (ap (λ (r : Reply). r .refusal) (e .1)) ∙ eqb-true _ _ (t .text)))
     back true false z t e = e .1
     back false y z t e = absurd (false≢true (sym (t .query) ∙ query-plain Q .1 (e .0)))
@@ -136,9 +82,9 @@ tree-first T Q l v =
 
 -- ---- ROOM and acceptance
 pub room-last : (T : List ℕ) (Q : Query) (l : Lent) → (buildReply T Q l ≡ refused ROOM 0) ↔ Cramped T Q l
-room-last T Q l = (by-tests T Q l (λ r. r ≡ refused ROOM 0 → Cramped T Q l) to, by-tests T Q l (λ r. Cramped T Q l → r ≡ refused ROOM 0) back)
+room-last T Q l = (by-tests T Q (length (l .slots)) (sizes l) (λ r. r ≡ refused ROOM 0 → Cramped T Q l) to, by-tests T Q (length (l .slots)) (sizes l) (λ r. Cramped T Q l → r ≡ refused ROOM 0) back)
   where
-    to : (x y z : Bool) → Tests T Q l x y z → replied T Q l x y z ≡ refused ROOM 0 → Cramped T Q l
+    to : (x y z : Bool) → Tests T Q (length (l .slots)) (sizes l) x y z → replied T Q (length (l .slots)) (sizes l) x y z ≡ refused ROOM 0 → Cramped T Q l
     to true true true t e = absurd (no-room T (ap (λ (r : Reply). r .refusal) e))
     to true true false t e =
         record {
@@ -150,42 +96,26 @@ room-last T Q l = (by-tests T Q l (λ r. r ≡ refused ROOM 0 → Cramped T Q l)
     to true false z t e = absurd (no-room T (ap (λ (r : Reply). r .refusal) e))
     to false y z t e = absurd (eqb-false 1 5 refl (ap (λ (r : Reply). r .refusal) e))
 
-    back : (x y z : Bool) → Tests T Q l x y z → Cramped T Q l → replied T Q l x y z ≡ refused ROOM 0
+    back : (x y z : Bool) → Tests T Q (length (l .slots)) (sizes l) x y z → Cramped T Q l → replied T Q (length (l .slots)) (sizes l) x y z ≡ refused ROOM 0
     back true true true t c = absurd (c .short (enough-plain T Q l .0 (t .room)))
     back true true false t c = refl
     back true false z t c = absurd (eqb-false _ _ (t .text) (ap (λ (r : Reply). r .refusal) (accepted-given T (c .nodes) (c .kept))))
     back false y z t c = absurd (false≢true (sym (t .query) ∙ query-plain Q .1 (c .query)))
 
 pub query-accepted : (T : List ℕ) (Q : Query) (l : Lent) (n : ℕ) → (buildReply T Q l ≡ totalled accepted n) ↔ Taken T Q l n
-query-accepted T Q l n = (by-tests T Q l (λ r. r ≡ totalled accepted n → Taken T Q l n) to, by-tests T Q l (λ r. Taken T Q l n → r ≡ totalled accepted n) back)
+query-accepted T Q l n = (by-tests T Q (length (l .slots)) (sizes l) (λ r. r ≡ totalled accepted n → Taken T Q l n) to, by-tests T Q (length (l .slots)) (sizes l) (λ r. Taken T Q l n → r ≡ totalled accepted n) back)
   where
-    to : (x y z : Bool) → Tests T Q l x y z → replied T Q l x y z ≡ totalled accepted n → Taken T Q l n
+    to : (x y z : Bool) → Tests T Q (length (l .slots)) (sizes l) x y z → replied T Q (length (l .slots)) (sizes l) x y z ≡ totalled accepted n → Taken T Q l n
     to true true true t e = record { query = query-plain Q .0 (t .query); kept = accepted-means T n e; room = enough-plain T Q l .0 (t .room) }
     to true true false t e = absurd (eqb-false 5 0 refl (ap (λ (r : Reply). r .refusal) e))
     to true false z t e = absurd (eqb-false _ _ (t .text) (ap (λ (r : Reply). r .refusal) e))
     to false y z t e = absurd (eqb-false 1 0 refl (ap (λ (r : Reply). r .refusal) e))
 
-    back : (x y z : Bool) → Tests T Q l x y z → Taken T Q l n → replied T Q l x y z ≡ totalled accepted n
+    back : (x y z : Bool) → Tests T Q (length (l .slots)) (sizes l) x y z → Taken T Q l n → replied T Q (length (l .slots)) (sizes l) x y z ≡ totalled accepted n
     back true true true t c = accepted-given T n (c .kept)
     back true true false t c = absurd (false≢true (sym (t .room) ∙ enough-plain T Q l .1 (c .room)))
     back true false z t c = absurd (eqb-false _ _ (t .text) (ap (λ (r : Reply). r .refusal) (accepted-given T n (c .kept))))
     back false y z t c = absurd (false≢true (sym (t .query) ∙ query-plain Q .1 (c .query)))
-
--- The query is one, the judge accepts the text, there is room, and the reply is the judge's.
-pub record Passed (T : List ℕ) (Q : Query) (l : Lent) : Type 0 where
-  pub query : queryOk Q ≡ true
-  pub judge : judgeReply T .refusal ≡ accepted
-  pub room : Enough T Q l
-  pub reply : buildReply T Q l ≡ judgeReply T
-
-pub passed-of : (T : List ℕ) (Q : Query) (l : Lent) → buildReply T Q l .refusal ≡ accepted → Passed T Q l
-passed-of T Q l e = by-tests T Q l (λ r. r .refusal ≡ accepted → r ≡ buildReply T Q l → Passed T Q l) to e refl
-  where
-    to : (x y z : Bool) → Tests T Q l x y z → replied T Q l x y z .refusal ≡ accepted → replied T Q l x y z ≡ buildReply T Q l → Passed T Q l
-    to true true true t e q = record { query = t .query; judge = e; room = enough-plain T Q l .0 (t .room); reply = sym q }
-    to true true false t e q = absurd (eqb-false 5 0 refl e)
-    to true false z t e q = absurd (eqb-false _ _ (t .text) e)
-    to false y z t e q = absurd (eqb-false 1 0 refl e)
 
 -- ---- what a refusal leaves
 module _ (T : List ℕ) (Q : Query) (l : Lent) (r : Reply) (b : Lent) (s : Builds T Q l r b) (n : r .refusal ≡ accepted → ⊥) where

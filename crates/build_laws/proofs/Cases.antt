@@ -1,7 +1,5 @@
--- Queries that are taken or not, and calls with all that they leave: a table and a theorem for each. Nodes, places, lists and counts are worked out by hand from 02's Q-2 and Q-5; the
+-- Calls with all that they leave: a table and a theorem. Nodes, places, lists and counts are worked out by hand from 02's Q-2 and Q-5; the
 -- hashes, and with them the slots, come from a program written apart from this one. Every slice is lent full of nines.
---   ask s e b         == the bytes s with the ends e are a query or not (b)
---   queries           the theorem: so it is for 17 queries;  words: the third word of "Night22trainH" is "trainh"
 --   sizes …           == the lengths lent: slots, parents, tags, firsts, lasts, ends, occurrences, counts, work
 --   built, cramped, refuses   == for the text and the words, in slices of these sizes: accepted with so many nodes, and these rows; ROOM, a table of zeros, and nines; another refusal and nines
 --   calls             the theorem: so it is for 21 calls. One entry short is ROOM for each of the nine slices; SIZE comes before MARKUP, and MARKUP before ROOM
@@ -10,7 +8,6 @@ use Prim.Native.Nat.{ℕ}
 use Prim.Native.String.{String}
 use mathlib.Core.Path.{_≡_, refl}
 use mathlib.Core.List.{List, [], _∷_, map}
-use mathlib.Core.Bool.{Bool, true, false}
 use lib.ListN.{replicate}
 use Rattle.seq.specs.Below.{everyBelow, firstFail, tabulate, gather, listed}
 use Rattle.seq.specs.Lists.{everyOf, someOf, sameList, tally}
@@ -37,51 +34,11 @@ use Rattle.words.specs.Reading.{gap, wordFrom, wordAt}
 use Rattle.words.specs.Scan.{pastMarkup, skipsMarkup, pastOther, skipsOther, past, skips, starts, scan, mentionsIn}
 use Rattle.words.specs.Stands.{wordsOn, stands}
 use Rattle.dictionary.specs.Slots.{tableOf}
-use Rattle.build.specs.Query.{query, asked, rises, queryOk}
-use Rattle.build.specs.Build.{Lent, lent, wordTable, listFor, listsTo, endsFor, countsFor, enough, buildReply, slotsAfter}
+use Rattle.query.specs.Query.{query, asked, rises, queryOk}
+use Rattle.plan.specs.Lists.{wordTable, listFor, listsTo}
+use Rattle.plan.specs.Plan.{enough, planReply, slotsAfter}
+use Rattle.build.specs.Build.{Lent, lent, endsFor, countsFor, buildReply}
 use Rattle.build.proofs.Replying.{after}
-
--- ---- queries
-pub record Asking : Type 0 where
-  pub words : String
-  pub ends : List ℕ
-  pub taken : Bool
-
-abbrev pub ask : String → List ℕ → Bool → Asking
-ask s e b = record { words = s; ends = e; taken = b }
-
-unfoldable pub askings : List Asking
-askings =
-    -- one word to eight, and nine; none
-    ask "a" (1 ∷ []) true ∷
-    ask "Night22trainH" (5 ∷ 7 ∷ 13 ∷ []) true ∷
-    ask "abcdefgh" (1 ∷ 2 ∷ 3 ∷ 4 ∷ 5 ∷ 6 ∷ 7 ∷ 8 ∷ []) true ∷
-    ask "abcdefghi" (1 ∷ 2 ∷ 3 ∷ 4 ∷ 5 ∷ 6 ∷ 7 ∷ 8 ∷ 9 ∷ []) false ∷
-    ask "" [] false ∷
-    ask "a" [] false ∷
-    -- an empty word
-    ask "" (0 ∷ []) false ∷
-    ask "ab" (0 ∷ 2 ∷ []) false ∷
-    ask "ab" (1 ∷ 1 ∷ 2 ∷ []) false ∷
-    ask "ab" (1 ∷ 2 ∷ 2 ∷ []) false ∷
-    -- ends that fall, or do not end with the bytes
-    ask "ab" (2 ∷ 1 ∷ []) false ∷
-    ask "ab" (2 ∷ 1 ∷ 2 ∷ []) false ∷
-    ask "ab" (1 ∷ []) false ∷
-    ask "ab" (3 ∷ []) false ∷
-    -- a byte that is no letter or digit
-    ask "a-b" (3 ∷ []) false ∷
-    ask "a b" (1 ∷ 3 ∷ []) false ∷
-    ask "a_" (2 ∷ []) false ∷
-    []
-
-pub queries : map (λ c. queryOk (query (bytesOf (c .words)) (c .ends))) askings ≡ map (λ c. c .taken) askings
-unfolding askings bytesOf everyBelow firstFail everyOf start wordByte rises queryOk
-queries = refl
-
-pub words : asked (query (bytesOf "Night22trainH") (5 ∷ 7 ∷ 13 ∷ [])) 2 ≡ bytesOf "trainh"
-unfolding bytesOf start wordList lower asked
-words = refl
 
 -- ---- calls
 pub record Call : Type 0 where
@@ -164,5 +121,5 @@ abbrev outcome : Call → Outcome
 outcome c = record { reply = replies c; leaves = after (bytesOf (c .text)) (query (bytesOf (c .words)) (c .ends)) (c .lent) (replies c) }
 
 pub calls : map outcome table ≡ map (λ c. record { reply = c .reply; leaves = c .leaves }) table
-unfolding table bytesOf firstFail sameList startsWith white span other until skimComment tagKind skimTag skimOf hashStep hashFrom hashOf turn reached around holds passes home slotOf found put insert fill wordByte lower gap wordFrom wordAt pastMarkup skipsMarkup pastOther skipsOther past skips starts scan mentionsIn tableOf char nameStart nameChar dataChar runByte runNext stepBetween stepAngle stepTag stepComment stepAmpersand stepAmpersandA step endAt note read treeOf accepting meets depthAfter solidAfter check replyTo known place with tagsAfter tagsOf everyBelow tabulate gather listed everyOf someOf tally zeroed over climb line under start wordList countUnder keptOr fits judgeReply wordsOn stands asked rises queryOk wordTable listFor listsTo endsFor countsFor enough buildReply slotsAfter
+unfolding table bytesOf firstFail sameList startsWith white span other until skimComment tagKind skimTag skimOf hashStep hashFrom hashOf turn reached around holds passes home slotOf found put insert fill wordByte lower gap wordFrom wordAt pastMarkup skipsMarkup pastOther skipsOther past skips starts scan mentionsIn tableOf char nameStart nameChar dataChar runByte runNext stepBetween stepAngle stepTag stepComment stepAmpersand stepAmpersandA step endAt note read treeOf accepting meets depthAfter solidAfter check replyTo known place with tagsAfter tagsOf everyBelow tabulate gather listed everyOf someOf tally zeroed over climb line under start wordList countUnder keptOr fits judgeReply wordsOn stands asked rises queryOk wordTable listFor listsTo endsFor countsFor enough planReply slotsAfter
 calls = refl

@@ -11,8 +11,9 @@ use lib.ListN.{length, getD, take, drop, length-append}
 use lib.Seq.{take-append-seam, drop-append-seam}
 use Rattle.seq.proofs.Laws.Gather.{getD-tabulate}
 use Rattle.index.specs.Index.{start, wordList}
-use Rattle.build.specs.Query.{Query}
-use Rattle.build.specs.Build.{listFor, listsTo, endsFor}
+use Rattle.query.specs.Query.{Query}
+use Rattle.plan.specs.Lists.{listFor, listsTo}
+use Rattle.build.specs.Build.{endsFor}
 
 module _ (T : List ℕ) (Q : Query) where
   lists-suc : (j : ℕ) → listsTo T Q (suc j) ≡ listsTo T Q j ++ listFor T Q j

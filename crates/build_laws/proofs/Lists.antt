@@ -19,8 +19,9 @@ use Rattle.profile.specs.Tags.{known}
 use Rattle.words.specs.Words.{documentWords}
 use Rattle.words.specs.Stands.{stands}
 use Rattle.words.proofs.Stands.{stands-known}
-use Rattle.build.specs.Query.{Query, asked}
-use Rattle.build.specs.Build.{Lent, listFor, wordsOf, Builds}
+use Rattle.query.specs.Query.{Query, asked, wordsOf}
+use Rattle.plan.specs.Lists.{listFor}
+use Rattle.build.specs.Build.{Lent, Builds}
 use Rattle.build_laws.specs.Calls.{handed, built}
 use Rattle.build_laws.proofs.Ends.{list-is}
 use Rattle.build_laws.proofs.Accepted.{total-nodes, handed-is}

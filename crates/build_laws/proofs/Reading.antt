@@ -16,12 +16,12 @@ use Rattle.judge.proofs.Meaning.{accepted-total}
 use Rattle.reader.specs.Read.{fitsIn, readReply, Reads}
 use Rattle.reader_laws.specs.Calls.{Taken}
 use Rattle.reader_laws.proofs.Calls.{profile-accepted}
-use Rattle.build.specs.Query.{Query}
-use Rattle.build.specs.Build.{Lent, Builds}
-use Rattle.build.proofs.Texts.{text-kept}
+use Rattle.query.specs.Query.{Query}
+use Rattle.build.specs.Build.{Lent, sizes, Builds}
+use Rattle.plan.proofs.Texts.{text-kept}
 use Rattle.build_laws.specs.Calls.{rows}
-use Rattle.build_laws.proofs.Room.{tree-fits}
-use Rattle.build_laws.proofs.Calls.{Passed}
+use Rattle.build_laws.proofs.Room.{tree-fits, enough-plain}
+use Rattle.plan.proofs.Tests.{Passed}
 use Rattle.build_laws.proofs.Accepted.{built-passed}
 
 read-reply : (T : List ℕ) (l : Lent) → judgeReply T .refusal ≡ accepted → fitsIn (length (treeOf T)) (rows l) ≡ true → readReply T (rows l) ≡ judgeReply T
@@ -31,13 +31,13 @@ read-reply T l e f =
     ap (λ z. cond z (judgeReply T) (totalled ROOM (judgeReply T .total))) (ap (λ (n : ℕ). fitsIn n (rows l)) (text-kept T e .total) ∙ f)
 
 module _ (T : List ℕ) (Q : Query) (l : Lent) (r : Reply) (b : Lent) (s : Builds T Q l r b) (e : r .refusal ≡ accepted) where
-  passed : Passed T Q l
+  passed : Passed T Q (length (l .slots)) (sizes l)
   passed = built-passed T Q l r b s e
 
   pub built-reads : Reads T (rows l) r (rows b)
   built-reads =
       record {
-        reply = s .reply ∙ passed .reply ∙ sym (read-reply T l (passed .judge) (tree-fits T Q l (passed .room)));
+        reply = s .reply ∙ passed .reply ∙ sym (read-reply T l (passed .judge) (tree-fits T Q l (enough-plain T Q l .0 (passed .room))));
         parents = s .parents;
         tags = s .tags;
         firsts = s .firsts;

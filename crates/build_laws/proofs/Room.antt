@@ -18,8 +18,10 @@ use Rattle.seq.proofs.Laws.Numbers.{less-or}
 use Rattle.profile.specs.Reader.{treeOf}
 use Rattle.reader.specs.Read.{fits}
 use Rattle.reader.proofs.Reading.{Room, room-of}
-use Rattle.build.specs.Query.{Query}
-use Rattle.build.specs.Build.{Lent, wordTable, listsTo, made, wordsOf, treeFits, enough}
+use Rattle.query.specs.Query.{Query, wordsOf}
+use Rattle.plan.specs.Lists.{wordTable, listsTo, made}
+use Rattle.plan.specs.Plan.{treeFits, enough}
+use Rattle.build.specs.Build.{Lent, sizes}
 use Rattle.build_laws.specs.Words.{newPlaces}
 use Rattle.build_laws.specs.Calls.{Enough}
 use Rattle.build_laws.proofs.Table.{table-fails}
@@ -43,10 +45,10 @@ module _ (T : List ℕ) (Q : Query) (l : Lent) where
   abbrev nodes : ℕ
   nodes = length (treeOf T)
 
-  pub tree-fits : Enough T Q l → treeFits nodes l ≡ true
+  pub tree-fits : Enough T Q l → treeFits nodes (sizes l) ≡ true
   tree-fits r = fits-of nodes _ _ _ _ _ (r .parents) (r .tags) (r .firsts) (r .lasts) (r .work)
 
-  enough-of : Enough T Q l → enough T Q l ≡ true
+  enough-of : Enough T Q l → enough T Q (length (l .slots)) (sizes l) ≡ true
   unfolding enough
   enough-of r =
       and-both _ _
@@ -54,18 +56,18 @@ module _ (T : List ℕ) (Q : Query) (l : Lent) where
       (and-both _ _ (le-leb (wordsOf Q) (length (l .ends)) (r .ends)) (le-leb (wordsOf Q * nodes) (length (l .counts)) (r .counts))))
       (and-both _ _ (table-made T (length (l .slots)) .1 (r .words)) (le-leb (length (listsTo T Q (wordsOf Q))) (length (l .occurrences)) (r .occurrences)))
 
-  module _ (e : enough T Q l ≡ true) where
-    fixed : (treeFits nodes l && (leb (wordsOf Q) (length (l .ends)) && leb (wordsOf Q * nodes) (length (l .counts)))) ≡ true
+  module _ (e : enough T Q (length (l .slots)) (sizes l) ≡ true) where
+    fixed : (treeFits nodes (sizes l) && (leb (wordsOf Q) (length (l .ends)) && leb (wordsOf Q * nodes) (length (l .counts)))) ≡ true
     fixed = unfold enough in and-left _ (made (wordTable T (length (l .slots))) && leb (length (listsTo T Q (wordsOf Q))) (length (l .occurrences))) e
 
     enough-table : (made (wordTable T (length (l .slots))) && leb (length (listsTo T Q (wordsOf Q))) (length (l .occurrences))) ≡ true
-    enough-table = unfold enough in and-right (treeFits nodes l && (leb (wordsOf Q) (length (l .ends)) && leb (wordsOf Q * nodes) (length (l .counts)))) _ e
+    enough-table = unfold enough in and-right (treeFits nodes (sizes l) && (leb (wordsOf Q) (length (l .ends)) && leb (wordsOf Q * nodes) (length (l .counts)))) _ e
 
     rows : (leb (wordsOf Q) (length (l .ends)) && leb (wordsOf Q * nodes) (length (l .counts))) ≡ true
-    rows = and-right (treeFits nodes l) _ fixed
+    rows = and-right (treeFits nodes (sizes l)) _ fixed
 
     tree : Room nodes (length (l .parents)) (length (l .tags)) (length (l .firsts)) (length (l .lasts)) (length (l .work))
-    tree = room-of nodes _ _ _ _ _ (and-left (treeFits nodes l) _ fixed)
+    tree = room-of nodes _ _ _ _ _ (and-left (treeFits nodes (sizes l)) _ fixed)
 
     enough-at : Enough T Q l
     enough-at =
@@ -81,5 +83,5 @@ module _ (T : List ℕ) (Q : Query) (l : Lent) where
           counts = leb-true (wordsOf Q * nodes) (length (l .counts)) (and-right (leb (wordsOf Q) (length (l .ends))) _ rows);
         }
 
-  pub enough-plain : (enough T Q l ≡ true) ↔ Enough T Q l
+  pub enough-plain : (enough T Q (length (l .slots)) (sizes l) ≡ true) ↔ Enough T Q l
   enough-plain = (enough-at, enough-of)

@@ -31,7 +31,7 @@ use Rattle.words.specs.Reading.{wordAt}
 use Rattle.words.specs.Scan.{mentionsIn}
 use Rattle.dictionary.specs.Slots.{stopOf, tableOf}
 use Rattle.dictionary.proofs.Laws.{stop-of}
-use Rattle.build.specs.Build.{placesOf, wordTable, made}
+use Rattle.plan.specs.Lists.{placesOf, wordTable, made}
 use Rattle.build_laws.specs.Words.{inText, firstPlace, newPlaces, Ruled, wordsIn, distinct}
 use Rattle.build_laws.proofs.Words.{first-is, in-text, new-words}
 

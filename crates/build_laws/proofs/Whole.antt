@@ -40,9 +40,9 @@ use Rattle.judge.specs.Judge.{judgeReply}
 use Rattle.reader.specs.Read.{parentsOf}
 use Rattle.words.specs.Stands.{stands}
 use Rattle.words.proofs.Stands.{stands-known}
-use Rattle.build.specs.Query.{Query, asked}
+use Rattle.query.specs.Query.{Query, asked, wordsOf}
 use Rattle.build.proofs.Replying.{build-unique}
-use Rattle.build.specs.Build.{Lent, wordsOf, Builds}
+use Rattle.build.specs.Build.{Lent, Builds}
 use Rattle.build.proofs.Whole.{parents-long, parents-down}
 use Rattle.build_laws.specs.Calls.{handed, built}
 use Rattle.build_laws.specs.Search.{WordsElca, textAt, documentAt}

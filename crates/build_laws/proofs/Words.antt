@@ -27,8 +27,8 @@ use Rattle.words.proofs.Right.{Every, none, more}
 use Rattle.words.proofs.Forgets.{document-forgets}
 use Rattle.words.proofs.Stands.{document-found}
 use Rattle.words.proofs.Scan.{mentions-read}
-use Rattle.build.specs.Build.{placesOf}
-use Rattle.build.proofs.Hits.{same-swap}
+use Rattle.plan.specs.Lists.{placesOf}
+use Rattle.plan.proofs.Hits.{same-swap}
 use Rattle.build_laws.specs.Words.{inText, Somewhere, newPlaces, inOne, wordsIn, distinct}
 
 -- ---- what is read

@@ -3,24 +3,22 @@
 --                      written, all words positive; the occurrences go up to the last end
 --   built T Q       == the index of the text T and the query Q itself
 --   rows l          == of what is lent to build, what is lent to a reader
---   IsQuery Q       == there are 1 to 8 words, none is empty, the last ends with the bytes, and every byte is a letter or a digit
 --   Enough T Q l    == what is lent is enough: each distinct word has a slot, and the tree as for the reader, the ends, the lists and the counts fit
 --   Taken T Q l n   == Q is a query, T a text of the profile that keeps the limits and has n nodes, and what is lent is enough
 --   Cramped T Q l   == the same, but what is lent is not enough
 -- What MARKUP and TREE say is in `judge`, specs/Meaning. Letters: T text, Q query, l b what is lent, before and after; n nodes. Assumes nothing.
-use Prim.Native.Nat.{ℕ, pred, _*_, _≤_, _<_}
-use mathlib.Core.Path.{_≡_}
+use Prim.Native.Nat.{ℕ, pred, _*_, _≤_}
 use mathlib.Core.List.{List}
-use mathlib.Core.Bool.{true}
 use lib.ListN.{length, getD, take}
-use Rattle.index.specs.Index.{Index, start}
+use Rattle.index.specs.Index.{Index}
 use Rattle.index.specs.Contracts.{lent}
 use Rattle.profile.specs.Reader.{treeOf}
 use Rattle.judge.specs.Meaning.{Kept}
 use Rattle.reader.specs.Read.{Lent as Rows, parentsOf, tagsIn}
-use Rattle.words.specs.Runs.{wordByte}
-use Rattle.build.specs.Query.{Query}
-use Rattle.build.specs.Build.{Lent, listsTo, endsFor, countsFor, wordsOf}
+use Rattle.query.specs.Query.{Query, wordsOf}
+use Rattle.query.specs.Plain.{IsQuery}
+use Rattle.plan.specs.Lists.{listsTo}
+use Rattle.build.specs.Build.{Lent, endsFor, countsFor}
 use Rattle.build_laws.specs.Words.{newPlaces}
 
 -- ---- the index
@@ -36,13 +34,6 @@ abbrev pub rows : Lent → Rows
 rows l = record { parents = l .parents; tags = l .tags; firsts = l .firsts; lasts = l .lasts; work = l .work }
 
 -- ---- the replies
-pub record IsQuery (Q : Query) : Type 0 where
-  pub some : 1 ≤ wordsOf Q
-  pub few : wordsOf Q ≤ 8
-  pub notEmpty : (j : ℕ) → j < wordsOf Q → start (Q .ends) j < getD (Q .ends) j 0
-  pub last : getD (Q .ends) (pred (wordsOf Q)) 0 ≡ length (Q .words)
-  pub letters : (i : ℕ) → i < length (Q .words) → wordByte (getD (Q .words) i 0) ≡ true
-
 pub record Enough (T : List ℕ) (Q : Query) (l : Lent) : Type 0 where
   pub words : length (newPlaces T) ≤ length (l .slots)
   pub parents : length (treeOf T) ≤ length (l .parents)

@@ -17,7 +17,7 @@ use Rattle.profile.specs.Grammar.{Document}
 use Rattle.profile.specs.Tags.{known}
 use Rattle.words.specs.Words.{documentWords}
 use Rattle.words.specs.Stands.{stands}
-use Rattle.build.specs.Query.{Query, asked}
+use Rattle.query.specs.Query.{Query, asked}
 
 pub record WordUnder (p : List ℕ) (at : ℕ → ℕ → Bool) (v j : ℕ) : Type 0 where
   pub node : ℕ

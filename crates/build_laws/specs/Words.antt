@@ -23,7 +23,7 @@ use Rattle.words.specs.Reading.{wordAt}
 use Rattle.words.specs.Scan.{mentionsIn}
 use Rattle.words.specs.Words.{documentWords}
 use Rattle.dictionary.specs.Slots.{stopOf, tableOf}
-use Rattle.build.specs.Build.{placesOf}
+use Rattle.plan.specs.Lists.{placesOf}
 
 abbrev pub inText : List ℕ → Word → Bool
 inText T q = names (wordAt T) (placesOf (mentionsIn T)) q

@@ -9,7 +9,7 @@ ghost use Rattle.merge.specs.Merge.{MergedElca, MergedSlca};
 ghost use Rattle.reason.specs.Contracts.{ExplainedInNumbers};
 ghost use Rattle.reader.specs.Read.{Reads};
 ghost use Rattle.reader.specs.Read as read;
-ghost use Rattle.build.specs.Query.{query};
+ghost use Rattle.query.specs.Query.{query};
 ghost use Rattle.build.specs.Build.{Builds};
 ghost use Rattle.build.specs.Build as built;
 use engine::Entry;

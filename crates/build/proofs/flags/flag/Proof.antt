@@ -1,12 +1,11 @@
 -- `build::flags::flag` meets its contract: glue over Rows. Assumes nothing.
 use Prim.Native.Nat.{_-_}
-use mathlib.Core.Path.{sym, ap, _∙_}
+use mathlib.Core.Path.{sym, _∙_}
 use mathlib.Core.Logic.{⊎-elim}
 use native.Mathlib.Omega.{arith}
 use lib.ListN.{length}
-use Rattle.fnv.specs.Fnv.{hashOf}
-use Rattle.build.specs.Query.{query}
-use Rattle.build.proofs.Queries.{query-kept, part-rises, part-within, part-is}
+use Rattle.query.specs.Query.{query}
+use Rattle.query.proofs.Kept.{query-kept, part-rises, part-within}
 use Rattle.build.proofs.Rows.{RowFlags, row-flags-start, flag-fits, hit-is, row-flags-hit, row-flags-not, row-flags-end, row-small}
 use borrow.Author.Needs.{needs}
 use Rattle.build.proofs.flags.flag.Statement.{statement}
@@ -46,10 +45,7 @@ shared-slice-read-is-asked : tie.Need-shared-slice-read-is-asked Inv-loop μ-loo
 shared-slice-read-is-asked c = omega (arith, c .before .before .before .before .loop-test .taken, (query-kept _ (c .before .before .before .before .before .before .before .before .before .before .before .pre .ok)) .few, c .before .before .before .before .before .before .before .before .before .before .before .pre .hashes .long)
 
 is-asked-requires : tie.Need-is-asked-requires Inv-loop μ-loop
-is-asked-requires c κs = record {
-  own = c .before .before .before .before .before .before .before .before .before .before .before .pre .own;
-  hash = c .before .before .before .before .before .before .before .before .before .before .before .pre .hashes .each _ (c .before .before .before .before .loop-test .taken) ∙ ap hashOf (sym (part-is _ (query-kept _ (c .before .before .before .before .before .before .before .before .before .before .before .pre .ok)) _ _ _ (c .before .before .before .before .loop-test .taken) (c .before .before .before .before .before .loop .inv .begins) (c .before .before .widen .ensures)));
-}
+is-asked-requires c κs = tt
 
 add-counts : tie.Need-add-counts Inv-loop μ-loop
 add-counts c = omega (arith, flag-fits _ _ _ _ _ _ _ _ _ _ (query-kept _ (c .before .before .before .before .before .before .before .before .before .before .before .before .before .pre .ok)) (c .before .before .before .before .before .before .before .loop .inv) (c .before .before .before .before .before .before .loop-test .taken) (c .before .before .before .before .before .before .before .before .before .before .before .before .before .pre .node), c .before .before .before .before .before .before .before .before .before .before .before .before .before .pre .long, (query-kept _ (c .before .before .before .before .before .before .before .before .before .before .before .before .before .pre .ok)) .few, c .before .before .before .before .before .before .before .before .before .before .before .before .before .pre .few, c .before .before .before .before .before .before .before .loop .inv .long)
@@ -71,7 +67,7 @@ loop-less c = omega (arith, c .before .before .before .before .before .before .l
 
 loop-again : tie.Need-loop-again Inv-loop μ-loop
 loop-again c =
-    let says = hit-is _ _ _ _ _ _ _ _ _ _ (query-kept _ (c .before .before .before .before .before .before .before .before .before .before .before .before .before .pre .ok)) (c .before .before .before .before .before .before .before .loop .inv) (c .before .before .before .before .before .before .loop-test .taken) (c .before .before .before .before .before .before .before .before .before .before .before .before .before .pre .node) _ (c .before .before .before .before .widen .ensures) in
+    let says = hit-is _ _ _ _ _ _ _ _ _ _ (query-kept _ (c .before .before .before .before .before .before .before .before .before .before .before .before .before .pre .ok)) (c .before .before .before .before .before .before .before .loop .inv) (c .before .before .before .before .before .before .loop-test .taken) (c .before .before .before .before .before .before .before .before .before .before .before .before .before .pre .node) _ (c .before .before .before .before .widen .ensures) _ _ (c .before .before .before .before .before .before .before .before .before .before .before .before .before .pre .own) (c .before .before .before .before .before .before .before .before .before .before .before .before .before .pre .hashes .each _ (c .before .before .before .before .before .before .loop-test .taken)) in
     ⊎-elim
     (λ w. rw (w .1) (row-flags-hit _ _ _ _ _ _ _ _ _ _ (query-kept _ (c .before .before .before .before .before .before .before .before .before .before .before .before .before .pre .ok)) (c .before .before .before .before .before .before .before .loop .inv) (c .before .before .before .before .before .before .loop-test .taken) (c .before .before .before .before .before .before .before .before .before .before .before .before .before .pre .node) _ (c .before .before .before .before .widen .ensures) (sym says ∙ sym (c .before .is-asked .ensures) ∙ w .0 .taken)))
     (λ w. rw (w .1) (row-flags-not _ _ _ _ _ _ _ _ _ _ (query-kept _ (c .before .before .before .before .before .before .before .before .before .before .before .before .before .pre .ok)) (c .before .before .before .before .before .before .before .loop .inv) (c .before .before .before .before .before .before .loop-test .taken) (c .before .before .before .before .before .before .before .before .before .before .before .before .before .pre .node) _ (c .before .before .before .before .widen .ensures) (sym says ∙ sym (c .before .is-asked .ensures) ∙ w .0 .left)))

@@ -3,9 +3,10 @@ use mathlib.Core.Path.{sym, _∙_}
 use native.Mathlib.Omega.{arith}
 use lib.ListN.{length}
 use borrow.Author.Tests.{not-true, not-false}
-use Rattle.build.specs.Query.{query}
-use Rattle.build.proofs.Texts.{text-kept}
-use Rattle.build.proofs.Passing.{left, none-left, nexts, own-hash, Flagging, flagging-start, flagging-end, flag-below, flag-fewer, flagging-step}
+use Rattle.query.specs.Query.{query}
+use Rattle.plan.proofs.Texts.{text-kept}
+use Rattle.plan.proofs.Passing.{left, none-left, nexts, own-hash}
+use Rattle.build.proofs.Flagging.{Flagging, flagging-start, flagging-end, flag-below, flag-fewer, flagging-step}
 use borrow.Author.Needs.{needs}
 use Rattle.build.proofs.flags.flag_words.Statement.{statement}
 use Rattle.build.proofs.flags.flag_words.Tie as tie

@@ -1,0 +1,4 @@
+pub mod Kept
+pub mod Testing
+pub mod Hashing
+pub mod Cases

@@ -1,0 +1,3 @@
+pub mod Query
+pub mod Plain
+pub mod Inner
