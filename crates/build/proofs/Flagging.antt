@@ -20,7 +20,7 @@ use Rattle.words.specs.Stands.{wordsOn, stands}
 use Rattle.words.proofs.Mentions.{below}
 use Rattle.inplace.specs.declared.Hashed.{Hashed}
 use Rattle.mentions.specs.declared.Seen.{Seen}
-use Rattle.query.specs.Query.{Query, asked, wordsOf}
+use Rattle.query.specs.Query.{Query, asked, wordCount}
 use Rattle.build.specs.Inner.{Flags, FlagWordsPre, FlagsAll}
 use Rattle.plan.proofs.Hits.{same-swap}
 use Rattle.plan.proofs.Texts.{text-kept}
@@ -29,8 +29,8 @@ use Rattle.plan.proofs.Passing.{left, Nexts}
 -- What is left, flagged over what is flagged, is what stands.
 pub record Flagging (T : List ℕ) (Q : Query) (n : ℕ) (c : List ℕ) (i : ℕ) (g b : Bool) (v : ℕ) : Type 0 where
   pub within : everyOf (below n) (left T i g b v) ≡ true
-  pub long : length c ≡ wordsOf Q * n
-  pub each : (j w : ℕ) → j < wordsOf Q → w < n → cond (known (wordsOn T (left T i g b v) w) (asked Q j)) 1 (getD c (j * n + w) 0) ≡ cond (stands T (asked Q j) w) 1 0
+  pub long : length c ≡ wordCount Q * n
+  pub each : (j w : ℕ) → j < wordCount Q → w < n → cond (known (wordsOn T (left T i g b v) w) (asked Q j)) 1 (getD c (j * n + w) 0) ≡ cond (stands T (asked Q j) w) 1 0
 
 pub flagging-start : (T : List ℕ) (Q : Query) (h : List ℕ) (n : ℕ) (c : List ℕ) → FlagWordsPre T Q h n c → Flagging T Q n c 0 false false 0
 unfolding mentionsIn stands
@@ -66,7 +66,7 @@ module _ (T : List ℕ) (Q : Query) (n : ℕ) (c : List ℕ) (i : ℕ) (g b : Bo
 
     module _ (c′ : List ℕ) (f : Flags T (d .place) at Q n c c′) where
       -- One flag: the mention is of this node or not.
-      one-flag : (j w : ℕ) → j < wordsOf Q → w < n →
+      one-flag : (j w : ℕ) → j < wordCount Q → w < n →
           cond (known (wordsOn T behind w) (asked Q j)) 1 (getD c′ (j * n + w) 0) ≡ cond (known (wordsOn T (mention at (d .place) ∷ behind) w) (asked Q j)) 1 (getD c (j * n + w) 0)
       unfolding wordsOn known
       one-flag j w a l =

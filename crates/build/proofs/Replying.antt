@@ -24,7 +24,7 @@ use Rattle.judge.specs.Judge.{judgeReply}
 use Rattle.reader.specs.Read as reader
 use Rattle.reader.specs.Read.{parentsOf, tagsIn, firstsOf, lastsOf, Reads}
 use Rattle.reader.proofs.Reading.{counted, over-is, kept-as, over-as, full-reply}
-use Rattle.query.specs.Query.{Query, wordsOf}
+use Rattle.query.specs.Query.{Query, wordCount}
 use Rattle.plan.specs.Lists.{wordTable, listsTo, made}
 use Rattle.plan.specs.Plan.{treeFits, enough, slotsAfter, Plans}
 use Rattle.plan.specs.Inner.{roomy}
@@ -46,15 +46,15 @@ module _ (T : List ℕ) (Q : Query) (z : Sizes) (w : List ℕ) (p : Planned) (s 
   judge-is : p .reply ≡ judgeReply T
   judge-is = h .reply ∙ passed .reply
 
-  lists-are : p .total ≡ length (listsTo T Q (wordsOf Q))
+  lists-are : p .total ≡ length (listsTo T Q (wordCount Q))
   lists-are = h .total ∙ total-all (p .reply) _ a
 
-  pub few-words : wordsOf Q ≤ 8
+  pub few-words : wordCount Q ≤ 8
   few-words = query-kept Q (passed .query) .few
 
   pub lists-fit : p .total ≤ z .occurrences
   unfolding enough roomy
-  lists-fit = omega (arith, lists-are, leb-true (length (listsTo T Q (wordsOf Q))) (z .occurrences) (and-right (made (wordTable T (length w))) _ (and-right (roomIn (length (treeOf T)) Q z) _ (passed .room))))
+  lists-fit = omega (arith, lists-are, leb-true (length (listsTo T Q (wordCount Q))) (z .occurrences) (and-right (made (wordTable T (length w))) _ (and-right (roomIn (length (treeOf T)) Q z) _ (passed .room))))
 
   module _ (n : ℕ) (q : n ≡ p .reply .total) where
     count : length (treeOf T) ≡ n
@@ -63,7 +63,7 @@ module _ (T : List ℕ) (Q : Query) (z : Sizes) (w : List ℕ) (p : Planned) (s 
     pub few-nodes : n ≤ 65536
     few-nodes = omega (arith, counted T (p .reply) judge-is a .few)
 
-    pub rooms : Roomy n (wordsOf Q) (z .parents) (z .tags) (z .firsts) (z .lasts) (z .work) (z .ends) (z .counts)
+    pub rooms : Roomy n (wordCount Q) (z .parents) (z .tags) (z .firsts) (z .lasts) (z .work) (z .ends) (z .counts)
     unfolding enough roomy
     rooms = roomy-of _ _ _ _ _ _ _ _ _ (ap (λ n. roomIn n Q z) (sym count) ∙ and-left _ _ (passed .room))
 
@@ -82,9 +82,9 @@ module _ (T : List ℕ) (Q : Query) (l : Lent) (p : Planned) (s : List ℕ) (h :
         tags = kept-as (p .reply) (tagsIn (treeOf T)) (l .tags) n;
         firsts = kept-as (p .reply) (firstsOf (treeOf T)) (l .firsts) n;
         lasts = kept-as (p .reply) (lastsOf (treeOf T)) (l .lasts) n;
-        ends = kept-as (p .reply) (endsFor T Q (wordsOf Q)) (l .ends) n;
-        occurrences = kept-as (p .reply) (listsTo T Q (wordsOf Q)) (l .occurrences) n;
-        counts = kept-as (p .reply) (countsFor T Q (wordsOf Q)) (l .counts) n;
+        ends = kept-as (p .reply) (endsFor T Q (wordCount Q)) (l .ends) n;
+        occurrences = kept-as (p .reply) (listsTo T Q (wordCount Q)) (l .occurrences) n;
+        counts = kept-as (p .reply) (countsFor T Q (wordCount Q)) (l .counts) n;
         work = sym (cond-false (eqb (p .reply .refusal) accepted) (ne-eqb (p .reply .refusal) accepted n) _ _);
       }
 
@@ -96,13 +96,13 @@ module _ (T : List ℕ) (Q : Query) (l : Lent) (p : Planned) (s : List ℕ) (h :
     judged : p .reply ≡ judgeReply T
     judged = judge-is T Q (sizes l) (l .slots) p s h a
 
-    lists : p .total ≡ length (listsTo T Q (wordsOf Q))
+    lists : p .total ≡ length (listsTo T Q (wordCount Q))
     lists = lists-are T Q (sizes l) (l .slots) p s h a
 
     nodes : length (treeOf T) ≡ n
     nodes = count T Q (sizes l) (l .slots) p s h a n q
 
-    fit : Roomy n (wordsOf Q) (length (l .parents)) (length (l .tags)) (length (l .firsts)) (length (l .lasts)) (length (l .work)) (length (l .ends)) (length (l .counts))
+    fit : Roomy n (wordCount Q) (length (l .parents)) (length (l .tags)) (length (l .firsts)) (length (l .lasts)) (length (l .work)) (length (l .ends)) (length (l .counts))
     fit = rooms T Q (sizes l) (l .slots) p s h a n q
 
     read-is : t ≡ judgeReply T
@@ -116,15 +116,15 @@ module _ (T : List ℕ) (Q : Query) (l : Lent) (p : Planned) (s : List ℕ) (h :
         ap (take n) (w .parents ∙ sym (over-as t (parentsOf (treeOf T)) (l .parents) accepts) ∙ sym (over-is (parentsOf (treeOf T)) (l .parents))) ∙
         take-at (parentsOf (treeOf T)) (drop (length (parentsOf (treeOf T))) (l .parents)) n (parents-long T ∙ nodes)
 
-    pub write-asks : WritePre T Q (take n (k .parents)) (take (wordsOf Q) (l .ends)) (take (p .total) (l .occurrences)) (take (wordsOf Q * n) (l .counts))
+    pub write-asks : WritePre T Q (take n (k .parents)) (take (wordCount Q) (l .ends)) (take (p .total) (l .occurrences)) (take (wordCount Q * n) (l .counts))
     write-asks =
         record {
           ok = all .query;
           kept = all .judge;
           parents = front;
-          ends = length-take-le (wordsOf Q) (l .ends) (fit .ends);
+          ends = length-take-le (wordCount Q) (l .ends) (fit .ends);
           lists = length-take-le (p .total) (l .occurrences) (lists-fit T Q (sizes l) (l .slots) p s h a) ∙ lists;
-          counts = length-take-le (wordsOf Q * n) (l .counts) (fit .counts) ∙ ap (λ (x : ℕ). wordsOf Q * x) (sym nodes);
+          counts = length-take-le (wordCount Q * n) (l .counts) (fit .counts) ∙ ap (λ (x : ℕ). wordCount Q * x) (sym nodes);
         }
 
     row : (new rows old : List ℕ) (m : ℕ) → new ≡ rows → length rows ≡ m → new ++ drop m old ≡ keptOr t rows old
@@ -132,7 +132,7 @@ module _ (T : List ℕ) (Q : Query) (l : Lent) (p : Planned) (s : List ℕ) (h :
 
     pub all-builds : (e′ o′ c′ : List ℕ) → Written T Q e′ o′ c′ →
         Builds T Q l t
-        (lent s (k .parents) (k .tags) (k .firsts) (k .lasts) (e′ ++ drop (wordsOf Q) (l .ends)) (o′ ++ drop (p .total) (l .occurrences)) (c′ ++ drop (wordsOf Q * n) (l .counts)) (k .work))
+        (lent s (k .parents) (k .tags) (k .firsts) (k .lasts) (e′ ++ drop (wordCount Q) (l .ends)) (o′ ++ drop (p .total) (l .occurrences)) (c′ ++ drop (wordCount Q * n) (l .counts)) (k .work))
     all-builds e′ o′ c′ v =
         record {
           reply = read-is ∙ sym (all .reply);
@@ -141,24 +141,24 @@ module _ (T : List ℕ) (Q : Query) (l : Lent) (p : Planned) (s : List ℕ) (h :
           tags = w .tags;
           firsts = w .firsts;
           lasts = w .lasts;
-          ends = row e′ (endsFor T Q (wordsOf Q)) (l .ends) (wordsOf Q) (v .ends) ends-long;
-          occurrences = row o′ (listsTo T Q (wordsOf Q)) (l .occurrences) (p .total) (v .lists) (sym lists);
-          counts = row c′ (countsFor T Q (wordsOf Q)) (l .counts) (wordsOf Q * n) (v .counts) counts-long;
+          ends = row e′ (endsFor T Q (wordCount Q)) (l .ends) (wordCount Q) (v .ends) ends-long;
+          occurrences = row o′ (listsTo T Q (wordCount Q)) (l .occurrences) (p .total) (v .lists) (sym lists);
+          counts = row c′ (countsFor T Q (wordCount Q)) (l .counts) (wordCount Q * n) (v .counts) counts-long;
           work = w .work;
         }
       where
-        ends-long : length (endsFor T Q (wordsOf Q)) ≡ wordsOf Q
-        ends-long = unfold endsFor in length-tabulate (wordsOf Q) _
+        ends-long : length (endsFor T Q (wordCount Q)) ≡ wordCount Q
+        ends-long = unfold endsFor in length-tabulate (wordCount Q) _
 
-        counts-long : length (countsFor T Q (wordsOf Q)) ≡ wordsOf Q * n
-        counts-long = unfold countsFor in length-tabulate (wordsOf Q * length (treeOf T)) _ ∙ ap (λ (x : ℕ). wordsOf Q * x) nodes
+        counts-long : length (countsFor T Q (wordCount Q)) ≡ wordCount Q * n
+        counts-long = unfold countsFor in length-tabulate (wordCount Q * length (treeOf T)) _ ∙ ap (λ (x : ℕ). wordCount Q * x) nodes
 
 -- ---- the contract
 -- What a reply leaves.
 abbrev pub after : List ℕ → Query → Lent → Reply → Lent
 after T Q l r =
     lent (slotsAfter T (l .slots) r) (keptOr r (parentsOf (treeOf T)) (l .parents)) (keptOr r (tagsIn (treeOf T)) (l .tags)) (keptOr r (firstsOf (treeOf T)) (l .firsts)) (keptOr r (lastsOf (treeOf T)) (l .lasts))
-    (keptOr r (endsFor T Q (wordsOf Q)) (l .ends)) (keptOr r (listsTo T Q (wordsOf Q)) (l .occurrences)) (keptOr r (countsFor T Q (wordsOf Q)) (l .counts))
+    (keptOr r (endsFor T Q (wordCount Q)) (l .ends)) (keptOr r (listsTo T Q (wordCount Q)) (l .occurrences)) (keptOr r (countsFor T Q (wordCount Q)) (l .counts))
     (cond (eqb (r .refusal) accepted) (zeroed (3 * length (treeOf T)) (l .work)) (l .work))
 
 pub leaves-after : (T : List ℕ) (Q : Query) (l : Lent) (r : Reply) (b : Lent) → Builds T Q l r b → b ≡ after T Q l r

@@ -19,7 +19,7 @@ use Rattle.index.proofs.Laws.Cells.{cell-below}
 use Rattle.fnv.specs.Fnv.{hashOf}
 use Rattle.words.specs.Runs.{lower}
 use Rattle.words.specs.Reading.{wordAt}
-use Rattle.query.specs.Query.{Query, asked, wordsOf}
+use Rattle.query.specs.Query.{Query, asked, wordCount}
 use Rattle.build.specs.Inner.{Flags}
 use Rattle.query.specs.Plain.{IsQuery}
 use Rattle.query.proofs.Kept.{part-is, part-next}
@@ -29,20 +29,20 @@ abbrev hit : List ℕ → ℕ → Query → ℕ → Bool
 hit T i Q j = sameList (asked Q j) (wordAt T i)
 
 pub record RowFlags (T : List ℕ) (i v : ℕ) (Q : Query) (n : ℕ) (c₀ c : List ℕ) (f r j : ℕ) : Type 0 where
-  pub within : j ≤ wordsOf Q
-  pub long : length c ≡ wordsOf Q * n
+  pub within : j ≤ wordCount Q
+  pub long : length c ≡ wordCount Q * n
   pub begins : f ≡ start (Q .ends) j
   pub row : r ≡ j * n
   pub done : (y u : ℕ) → y < j → u < n → getD c (y * n + u) 0 ≡ cond (eqb v u && hit T i Q y) 1 (getD c₀ (y * n + u) 0)
   pub rest : (e : ℕ) → r ≤ e → getD c e 0 ≡ getD c₀ e 0
 
-pub row-flags-start : (T : List ℕ) (i v : ℕ) (Q : Query) (n : ℕ) (c : List ℕ) → length c ≡ wordsOf Q * n → RowFlags T i v Q n c c 0 0 0
+pub row-flags-start : (T : List ℕ) (i v : ℕ) (Q : Query) (n : ℕ) (c : List ℕ) → length c ≡ wordCount Q * n → RowFlags T i v Q n c c 0 0 0
 unfolding start
 row-flags-start T i v Q n c e = record { within = zero-le; long = e; begins = refl; row = omega arith; done = λ y u l. absurd (not-suc-le-zero l); rest = λ e l. refl }
 
-module _ (T : List ℕ) (i v : ℕ) (Q : Query) (n : ℕ) (c₀ c : List ℕ) (f r j : ℕ) (q : IsQuery Q) (s : RowFlags T i v Q n c₀ c f r j) (l : j < wordsOf Q) (b : v < n) where
+module _ (T : List ℕ) (i v : ℕ) (Q : Query) (n : ℕ) (c₀ c : List ℕ) (f r j : ℕ) (q : IsQuery Q) (s : RowFlags T i v Q n c₀ c f r j) (l : j < wordCount Q) (b : v < n) where
   pub flag-fits : r + v < length c
-  flag-fits = omega (arith, cell-below (wordsOf Q) n j v l b, s .row, s .long)
+  flag-fits = omega (arith, cell-below (wordCount Q) n j v l b, s .row, s .long)
 
   -- What was asked, in the words of the query.
   pub hit-is : (t : ℕ) → t ≡ getD (Q .ends) j 0 → (a h : ℕ) → a ≡ hashOf (wordAt T i) → h ≡ hashOf (asked Q j) →
@@ -90,7 +90,7 @@ module _ (T : List ℕ) (i v : ℕ) (Q : Query) (n : ℕ) (c₀ c : List ℕ) (f
           rest = λ x m. s .rest x (omega arith);
         }
 
-pub row-flags-end : (T : List ℕ) (i v : ℕ) (Q : Query) (n : ℕ) (c₀ c : List ℕ) (f r j : ℕ) → RowFlags T i v Q n c₀ c f r j → wordsOf Q ≤ j → Flags T i v Q n c₀ c
+pub row-flags-end : (T : List ℕ) (i v : ℕ) (Q : Query) (n : ℕ) (c₀ c : List ℕ) (f r j : ℕ) → RowFlags T i v Q n c₀ c f r j → wordCount Q ≤ j → Flags T i v Q n c₀ c
 row-flags-end T i v Q n c₀ c f r j s l = record { long = s .long; each = λ y u a b. s .done y u (omega (arith, s .within)) b }
 
 -- No row begins too far on.

@@ -32,7 +32,7 @@ use Rattle.judge.proofs.Meaning.{accepted-total}
 use Rattle.reader.specs.Read.{parentsOf, tagsIn}
 use Rattle.reader_laws.proofs.Reading.{read-lawful}
 use Rattle.words.specs.Stands.{stands}
-use Rattle.query.specs.Query.{Query, asked, wordsOf}
+use Rattle.query.specs.Query.{Query, asked, wordCount}
 use Rattle.plan.specs.Lists.{listFor, listsTo}
 use Rattle.build.specs.Build.{endsFor, countsFor}
 use Rattle.build.specs.Inner.{rowOf, flagLists, FlagAllPre, FlagsAll, ListsPre, ListsWritten, SumRowsPre, SumsRows, WritePre, Written}
@@ -55,13 +55,13 @@ eqb-flag true = refl
 eqb-flag false = refl
 
 module _ (T : List ℕ) (Q : Query) (n : ℕ) (c : List ℕ) (same : n ≡ length (treeOf T)) (f : FlagsAll T Q n c) where
-  row-long : (j : ℕ) → j < wordsOf Q → length (rowOf c n j) ≡ n
-  row-long j l = length-take-le n (drop (j * n) c) (omega (arith, length-drop (j * n) c, f .long, row-le j (wordsOf Q) n l))
+  row-long : (j : ℕ) → j < wordCount Q → length (rowOf c n j) ≡ n
+  row-long j l = length-take-le n (drop (j * n) c) (omega (arith, length-drop (j * n) c, f .long, row-le j (wordCount Q) n l))
 
   row-entry : (j v : ℕ) → v < n → getD (rowOf c n j) v 0 ≡ getD c (j * n + v) 0
   row-entry j v l = getD-take n (drop (j * n) c) v 0 l ∙ getD-drop (j * n) c v 0
 
-  row-list : (j : ℕ) → j < wordsOf Q → flaggedRows (rowOf c n j) ≡ listFor T Q j
+  row-list : (j : ℕ) → j < wordCount Q → flaggedRows (rowOf c n j) ≡ listFor T Q j
   unfolding flaggedRows flagged listFor listed
   row-list j l =
       ap (λ (z : ℕ). gather z (λ v. eqb (getD (rowOf c n j) v 0) 1) (λ v. v ∷ [])) (row-long j l) ∙
@@ -69,13 +69,13 @@ module _ (T : List ℕ) (Q : Query) (n : ℕ) (c : List ℕ) (same : n ≡ lengt
       (λ v h. ap (λ (z : ℕ). eqb z 1) (row-entry j v h ∙ f .each j v l h) ∙ eqb-flag (stands T (asked Q j) v)) (λ v h. refl) ∙
       ap (λ (z : ℕ). gather z (stands T (asked Q j)) (λ v. v ∷ [])) same
 
-  pub flag-lists : (k : ℕ) → k ≤ wordsOf Q → flagLists c n k ≡ listsTo T Q k
+  pub flag-lists : (k : ℕ) → k ≤ wordCount Q → flagLists c n k ≡ listsTo T Q k
   unfolding flagLists listsTo
   flag-lists zero h = refl
   flag-lists (suc k) h = ap₂ _++_ (flag-lists k (omega arith)) (row-list k (omega arith))
 
   -- Sums of flags are counts.
-  count-row : (p : List ℕ) → length p ≡ n → (j v : ℕ) → j < wordsOf Q → sumUnder p (λ u. getD c (j * n + u) 0) v ≡ countUnder p (listFor T Q j) v
+  count-row : (p : List ℕ) → length p ≡ n → (j v : ℕ) → j < wordCount Q → sumUnder p (λ u. getD c (j * n + u) 0) v ≡ countUnder p (listFor T Q j) v
   unfolding sumUnder countUnder
   count-row p e j v l =
       ap (λ (z : ℕ). sumBelow z (λ u. cond (under p v u) (getD c (j * n + u) 0) 0)) e ∙
@@ -98,7 +98,7 @@ module _ (T : List ℕ) (Q : Query) (p e o c : List ℕ) (pre : WritePre T Q p e
   t = text-kept T (pre .kept)
 
   pub write-flags : FlagAllPre T Q (length p) c
-  write-flags = record { ok = pre .ok; kept = pre .kept; nodes = nodes-is; long = pre .counts ∙ ap (λ (z : ℕ). wordsOf Q * z) (sym nodes-is) }
+  write-flags = record { ok = pre .ok; kept = pre .kept; nodes = nodes-is; long = pre .counts ∙ ap (λ (z : ℕ). wordCount Q * z) (sym nodes-is) }
 
   module _ (c₁ : List ℕ) (f : FlagsAll T Q (length p) c₁) where
     pub write-lists : ListsPre c₁ (length p) e o
@@ -107,10 +107,10 @@ module _ (T : List ℕ) (Q : Query) (p e o c : List ℕ) (pre : WritePre T Q p e
           few = omega (arith, t .few, nodes-is);
           words = omega (arith, pre .ends, q .few);
           long = f .long ∙ ap (λ (z : ℕ). z * length p) (sym (pre .ends));
-          room = pre .lists ∙ ap length (sym (flag-lists T Q (length p) c₁ nodes-is f (wordsOf Q) (omega arith)) ∙ ap (flagLists c₁ (length p)) (sym (pre .ends)));
+          room = pre .lists ∙ ap length (sym (flag-lists T Q (length p) c₁ nodes-is f (wordCount Q) (omega arith)) ∙ ap (flagLists c₁ (length p)) (sym (pre .ends)));
         }
 
-    pub write-sums : SumRowsPre p (wordsOf Q) c₁
+    pub write-sums : SumRowsPre p (wordCount Q) c₁
     write-sums =
         record {
           down = subst (λ p. Down p (length p)) (sym (pre .parents)) (parents-down T (pre .kept));
@@ -125,7 +125,7 @@ module _ (T : List ℕ) (Q : Query) (p e o c : List ℕ) (pre : WritePre T Q p e
         one false = omega arith
 
     -- Entry i is that of node i % n of word i / n.
-    count-entry : (c₂ : List ℕ) → SumsRows p (wordsOf Q) c₁ c₂ → (i : ℕ) → i < wordsOf Q * length (treeOf T) →
+    count-entry : (c₂ : List ℕ) → SumsRows p (wordCount Q) c₁ c₂ → (i : ℕ) → i < wordCount Q * length (treeOf T) →
         getD c₂ i 0 ≡ countUnder (parentsOf (treeOf T)) (listFor T Q (i / length (treeOf T))) (i % length (treeOf T))
     count-entry c₂ s i l =
         ap (λ (z : ℕ). getD c₂ z 0) (sym (div-add-mod' i (length (treeOf T))) ∙ ap (λ (z : ℕ). i / length (treeOf T) * z + i % length (treeOf T)) (sym nodes-is)) ∙
@@ -134,24 +134,24 @@ module _ (T : List ℕ) (Q : Query) (p e o c : List ℕ) (pre : WritePre T Q p e
         ap (λ p. countUnder p (listFor T Q (i / length (treeOf T))) (i % length (treeOf T))) (pre .parents)
       where
         some : 0 < length (treeOf T)
-        some = product-some i (wordsOf Q) (length (treeOf T)) l
+        some = product-some i (wordCount Q) (length (treeOf T)) l
 
-        word : i / length (treeOf T) < wordsOf Q
+        word : i / length (treeOf T) < wordCount Q
         word = div-lt-iff-lt-mul some .1 l
 
-    pub written : (e′ o′ c₂ : List ℕ) → ListsWritten c₁ (length p) e o e′ o′ → SumsRows p (wordsOf Q) c₁ c₂ → Written T Q e′ o′ c₂
+    pub written : (e′ o′ c₂ : List ℕ) → ListsWritten c₁ (length p) e o e′ o′ → SumsRows p (wordCount Q) c₁ c₂ → Written T Q e′ o′ c₂
     unfolding endsFor countsFor
     written e′ o′ c₂ w s =
         record {
           ends = w .ends ∙ ap (λ (z : ℕ). tabulate z (λ j. length (flagLists c₁ (length p) (suc j)))) (pre .ends) ∙
-              tabulate-ext (wordsOf Q) (λ j. length (flagLists c₁ (length p) (suc j))) (λ j. length (listsTo T Q (suc j))) (λ j l. ap length (flag-lists T Q (length p) c₁ nodes-is f (suc j) (omega arith)));
-          lists = w .lists ∙ ap (flagLists c₁ (length p)) (pre .ends) ∙ flag-lists T Q (length p) c₁ nodes-is f (wordsOf Q) (omega arith);
-          counts = ext-getD 0 c₂ (tabulate (wordsOf Q * length (treeOf T)) count) (s .long ∙ all-nodes ∙ sym (length-tabulate (wordsOf Q * length (treeOf T)) count))
-              (λ i l. let h : i < wordsOf Q * length (treeOf T) = omega (arith, s .long, all-nodes) in count-entry c₂ s i h ∙ sym (getD-tabulate (wordsOf Q * length (treeOf T)) count i 0 h));
+              tabulate-ext (wordCount Q) (λ j. length (flagLists c₁ (length p) (suc j))) (λ j. length (listsTo T Q (suc j))) (λ j l. ap length (flag-lists T Q (length p) c₁ nodes-is f (suc j) (omega arith)));
+          lists = w .lists ∙ ap (flagLists c₁ (length p)) (pre .ends) ∙ flag-lists T Q (length p) c₁ nodes-is f (wordCount Q) (omega arith);
+          counts = ext-getD 0 c₂ (tabulate (wordCount Q * length (treeOf T)) count) (s .long ∙ all-nodes ∙ sym (length-tabulate (wordCount Q * length (treeOf T)) count))
+              (λ i l. let h : i < wordCount Q * length (treeOf T) = omega (arith, s .long, all-nodes) in count-entry c₂ s i h ∙ sym (getD-tabulate (wordCount Q * length (treeOf T)) count i 0 h));
         }
       where
-        all-nodes : wordsOf Q * length p ≡ wordsOf Q * length (treeOf T)
-        all-nodes = ap (λ (z : ℕ). wordsOf Q * z) nodes-is
+        all-nodes : wordCount Q * length p ≡ wordCount Q * length (treeOf T)
+        all-nodes = ap (λ (z : ℕ). wordCount Q * z) nodes-is
 
         count : ℕ → ℕ
         count i = countUnder (parentsOf (treeOf T)) (listFor T Q (i / length (treeOf T))) (i % length (treeOf T))

@@ -17,7 +17,7 @@ use Rattle.index.specs.declared.Reply.{Reply}
 use Rattle.index.specs.Replies.{accepted, keptOr}
 use Rattle.profile.specs.Reader.{treeOf}
 use Rattle.reader.specs.Read.{parentsOf, tagsIn, firstsOf, lastsOf}
-use Rattle.query.specs.Query.{Query, wordsOf}
+use Rattle.query.specs.Query.{Query, wordCount}
 use Rattle.plan.specs.declared.Sizes.{Sizes}
 use Rattle.plan.specs.Lists.{listFor, listsTo}
 use Rattle.plan.specs.Plan.{planReply, slotsAfter}
@@ -69,7 +69,7 @@ pub record Builds (T : List ℕ) (Q : Query) (l : Lent) (r : Reply) (b : Lent) :
   pub tags : b .tags ≡ keptOr r (tagsIn (treeOf T)) (l .tags)
   pub firsts : b .firsts ≡ keptOr r (firstsOf (treeOf T)) (l .firsts)
   pub lasts : b .lasts ≡ keptOr r (lastsOf (treeOf T)) (l .lasts)
-  pub ends : b .ends ≡ keptOr r (endsFor T Q (wordsOf Q)) (l .ends)
-  pub occurrences : b .occurrences ≡ keptOr r (listsTo T Q (wordsOf Q)) (l .occurrences)
-  pub counts : b .counts ≡ keptOr r (countsFor T Q (wordsOf Q)) (l .counts)
+  pub ends : b .ends ≡ keptOr r (endsFor T Q (wordCount Q)) (l .ends)
+  pub occurrences : b .occurrences ≡ keptOr r (listsTo T Q (wordCount Q)) (l .occurrences)
+  pub counts : b .counts ≡ keptOr r (countsFor T Q (wordCount Q)) (l .counts)
   pub work : b .work ≡ cond (eqb (r .refusal) accepted) (zeroed (3 * length (treeOf T)) (l .work)) (l .work)

@@ -22,7 +22,7 @@ use Rattle.reader.specs.Read.{parentsOf}
 use Rattle.fnv.specs.Fnv.{hashOf}
 use Rattle.words.specs.Reading.{wordAt}
 use Rattle.words.specs.Stands.{stands}
-use Rattle.query.specs.Query.{Query, asked, wordsOf, queryOk, Hashes}
+use Rattle.query.specs.Query.{Query, asked, wordCount, queryOk, Hashes}
 use Rattle.plan.specs.Lists.{listsTo}
 use Rattle.build.specs.Build.{endsFor, countsFor}
 
@@ -33,17 +33,17 @@ pub record FlagPre (T : List ℕ) (i a v : ℕ) (Q : Query) (h : List ℕ) (n : 
   pub hashes : Hashes Q h
   pub node : v < n
   pub few : n ≤ 65536
-  pub long : length c ≡ wordsOf Q * n
+  pub long : length c ≡ wordCount Q * n
 
 pub record Flags (T : List ℕ) (i v : ℕ) (Q : Query) (n : ℕ) (c c′ : List ℕ) : Type 0 where
-  pub long : length c′ ≡ wordsOf Q * n
-  pub each : (j u : ℕ) → j < wordsOf Q → u < n → getD c′ (j * n + u) 0 ≡ cond (eqb v u && sameList (asked Q j) (wordAt T i)) 1 (getD c (j * n + u) 0)
+  pub long : length c′ ≡ wordCount Q * n
+  pub each : (j u : ℕ) → j < wordCount Q → u < n → getD c′ (j * n + u) 0 ≡ cond (eqb v u && sameList (asked Q j) (wordAt T i)) 1 (getD c (j * n + u) 0)
 
 pub record FlagAllPre (T : List ℕ) (Q : Query) (n : ℕ) (c : List ℕ) : Type 0 where
   pub ok : queryOk Q ≡ true
   pub kept : judgeReply T .refusal ≡ accepted
   pub nodes : n ≡ length (treeOf T)
-  pub long : length c ≡ wordsOf Q * n
+  pub long : length c ≡ wordCount Q * n
 
 pub record FlagWordsPre (T : List ℕ) (Q : Query) (h : List ℕ) (n : ℕ) (c : List ℕ) : Type 0 where
   pub pre : FlagAllPre T Q n c
@@ -51,8 +51,8 @@ pub record FlagWordsPre (T : List ℕ) (Q : Query) (h : List ℕ) (n : ℕ) (c :
   pub clear : c ≡ replicate (length c) 0
 
 pub record FlagsAll (T : List ℕ) (Q : Query) (n : ℕ) (c′ : List ℕ) : Type 0 where
-  pub long : length c′ ≡ wordsOf Q * n
-  pub each : (j v : ℕ) → j < wordsOf Q → v < n → getD c′ (j * n + v) 0 ≡ cond (stands T (asked Q j) v) 1 0
+  pub long : length c′ ≡ wordCount Q * n
+  pub each : (j v : ℕ) → j < wordCount Q → v < n → getD c′ (j * n + v) 0 ≡ cond (stands T (asked Q j) v) 1 0
 
 -- ---- lists and counts
 abbrev pub rowOf : List ℕ → ℕ → ℕ → List ℕ
@@ -98,11 +98,11 @@ pub record WritePre (T : List ℕ) (Q : Query) (p e o c : List ℕ) : Type 0 whe
   pub ok : queryOk Q ≡ true
   pub kept : judgeReply T .refusal ≡ accepted
   pub parents : p ≡ parentsOf (treeOf T)
-  pub ends : length e ≡ wordsOf Q
-  pub lists : length o ≡ length (listsTo T Q (wordsOf Q))
-  pub counts : length c ≡ wordsOf Q * length (treeOf T)
+  pub ends : length e ≡ wordCount Q
+  pub lists : length o ≡ length (listsTo T Q (wordCount Q))
+  pub counts : length c ≡ wordCount Q * length (treeOf T)
 
 pub record Written (T : List ℕ) (Q : Query) (e′ o′ c′ : List ℕ) : Type 0 where
-  pub ends : e′ ≡ endsFor T Q (wordsOf Q)
-  pub lists : o′ ≡ listsTo T Q (wordsOf Q)
-  pub counts : c′ ≡ countsFor T Q (wordsOf Q)
+  pub ends : e′ ≡ endsFor T Q (wordCount Q)
+  pub lists : o′ ≡ listsTo T Q (wordCount Q)
+  pub counts : c′ ≡ countsFor T Q (wordCount Q)

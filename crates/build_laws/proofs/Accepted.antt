@@ -43,7 +43,7 @@ use Rattle.reader.proofs.Reading.{tags-count}
 use Rattle.reader_laws.proofs.Reading.{read-lawful}
 use Rattle.words.specs.Stands.{stands}
 use Rattle.probing.specs.Table.{blank}
-use Rattle.query.specs.Query.{Query, asked, queryOk, wordsOf}
+use Rattle.query.specs.Query.{Query, asked, queryOk, wordCount}
 use Rattle.plan.specs.Lists.{wordTable, listFor, listsTo, made, tableOr}
 use Rattle.plan.specs.Plan.{slotsAfter}
 use Rattle.build.specs.Build.{Lent, sizes, endsFor, countsFor, Builds}
@@ -89,45 +89,45 @@ module _ (T : List ℕ) (e : judgeReply T .refusal ≡ accepted) where
 
 -- ---- the index
 module _ (T : List ℕ) (Q : Query) where
-  ends-long : length (endsFor T Q (wordsOf Q)) ≡ wordsOf Q
+  ends-long : length (endsFor T Q (wordCount Q)) ≡ wordCount Q
   unfolding endsFor
-  ends-long = length-tabulate (wordsOf Q) _
+  ends-long = length-tabulate (wordCount Q) _
 
-  counts-long : length (countsFor T Q (wordsOf Q)) ≡ wordsOf Q * length (treeOf T)
+  counts-long : length (countsFor T Q (wordCount Q)) ≡ wordCount Q * length (treeOf T)
   unfolding countsFor
-  counts-long = length-tabulate (wordsOf Q * length (treeOf T)) _
+  counts-long = length-tabulate (wordCount Q * length (treeOf T)) _
 
   list-kept : (j : ℕ) → ListKept (length (treeOf T)) (listFor T Q j)
   unfolding listFor
   list-kept j = record { increasing = listed-rising (length (treeOf T)) (stands T (asked Q j)); below = listed-below (length (treeOf T)) (stands T (asked Q j)) }
 
-  word-kept : (j : ℕ) → j < wordsOf Q → WordKept (length (treeOf T)) (endsFor T Q (wordsOf Q)) (listsTo T Q (wordsOf Q)) j
+  word-kept : (j : ℕ) → j < wordCount Q → WordKept (length (treeOf T)) (endsFor T Q (wordCount Q)) (listsTo T Q (wordCount Q)) j
   word-kept j l =
       record {
-        rising = omega (arith, start-is T Q (wordsOf Q) j l, end-is T Q (wordsOf Q) j l, lists-le T Q j (suc j) (omega arith));
-        within = omega (arith, end-is T Q (wordsOf Q) j l, lists-le T Q (suc j) (wordsOf Q) l);
-        last = λ e. end-is T Q (wordsOf Q) j l ∙ ap (λ (z : ℕ). length (listsTo T Q z)) (e ∙ ends-long);
-        list = subst (ListKept (length (treeOf T))) (sym (list-is T Q (wordsOf Q) j l)) (list-kept j);
+        rising = omega (arith, start-is T Q (wordCount Q) j l, end-is T Q (wordCount Q) j l, lists-le T Q j (suc j) (omega arith));
+        within = omega (arith, end-is T Q (wordCount Q) j l, lists-le T Q (suc j) (wordCount Q) l);
+        last = λ e. end-is T Q (wordCount Q) j l ∙ ap (λ (z : ℕ). length (listsTo T Q z)) (e ∙ ends-long);
+        list = subst (ListKept (length (treeOf T))) (sym (list-is T Q (wordCount Q) j l)) (list-kept j);
       }
 
-  count-kept : (j v : ℕ) → j < wordsOf Q → v < length (treeOf T) →
-      getD (countsFor T Q (wordsOf Q)) (j * length (treeOf T) + v) 0 ≡ countUnder (parentsOf (treeOf T)) (wordList (endsFor T Q (wordsOf Q)) (listsTo T Q (wordsOf Q)) j) v
+  count-kept : (j v : ℕ) → j < wordCount Q → v < length (treeOf T) →
+      getD (countsFor T Q (wordCount Q)) (j * length (treeOf T) + v) 0 ≡ countUnder (parentsOf (treeOf T)) (wordList (endsFor T Q (wordCount Q)) (listsTo T Q (wordCount Q)) j) v
   unfolding countsFor
   count-kept j v l h =
       let n : ℕ = length (treeOf T) in
-      getD-tabulate (wordsOf Q * n) (λ e. countUnder (parentsOf (treeOf T)) (listFor T Q (e / n)) (e % n)) (j * n + v) 0 (omega (arith, row-le j (wordsOf Q) n l)) ∙
+      getD-tabulate (wordCount Q * n) (λ e. countUnder (parentsOf (treeOf T)) (listFor T Q (e / n)) (e % n)) (j * n + v) 0 (omega (arith, row-le j (wordCount Q) n l)) ∙
       ap₂ (λ (x y : ℕ). countUnder (parentsOf (treeOf T)) (listFor T Q x) y) (entry-word n j v h) (entry-node n j v h) ∙
-      ap (λ z. countUnder (parentsOf (treeOf T)) z v) (sym (list-is T Q (wordsOf Q) j l))
+      ap (λ z. countUnder (parentsOf (treeOf T)) z v) (sym (list-is T Q (wordCount Q) j l))
 
   pub built-right : judgeReply T .refusal ≡ accepted → Right (built T Q)
   built-right e =
       record {
         tree = built-lawful T e;
-        lists = λ j l. subst (λ (z : ℕ). WordKept z (endsFor T Q (wordsOf Q)) (listsTo T Q (wordsOf Q)) j) (sym (parents-long T)) (word-kept j (omega (arith, ends-long)));
-        counts = λ j v l h. ap (λ (z : ℕ). getD (countsFor T Q (wordsOf Q)) (j * z + v) 0) (parents-long T) ∙ count-kept j v (omega (arith, ends-long)) (omega (arith, parents-long T));
+        lists = λ j l. subst (λ (z : ℕ). WordKept z (endsFor T Q (wordCount Q)) (listsTo T Q (wordCount Q)) j) (sym (parents-long T)) (word-kept j (omega (arith, ends-long)));
+        counts = λ j v l h. ap (λ (z : ℕ). getD (countsFor T Q (wordCount Q)) (j * z + v) 0) (parents-long T) ∙ count-kept j v (omega (arith, ends-long)) (omega (arith, parents-long T));
       }
 
-  pub built-sized : (most : ℕ) → queryOk Q ≡ true → judgeReply T .refusal ≡ accepted → (w : ℕ) → (wordsOf Q + 2) * length (treeOf T) ≤ w → Sized most (built T Q) w
+  pub built-sized : (most : ℕ) → queryOk Q ≡ true → judgeReply T .refusal ≡ accepted → (w : ℕ) → (wordCount Q + 2) * length (treeOf T) ≤ w → Sized most (built T Q) w
   built-sized most o e w h =
       record {
         someNodes = omega (arith, parents-long T, nodes-some T e);
@@ -145,7 +145,7 @@ module _ (T : List ℕ) (Q : Query) where
       q : IsQuery Q
       q = query-kept Q o
 
-      one : wordsOf Q ≡ wordsOf Q + 0
+      one : wordCount Q ≡ wordCount Q + 0
       one = omega arith
 
 -- ---- what is handed over
@@ -173,21 +173,21 @@ module _ (T : List ℕ) (Q : Query) (l : Lent) (r : Reply) (b : Lent) (s : Build
   cut : (n : ℕ) (new old left : List ℕ) → left ≡ keptOr r new old → length new ≡ n → take n left ≡ new
   cut n new old left p q = ap (take n) (p ∙ kept-accepted r new old e) ∙ front n new old q
 
-  last-end : getD (b .ends) (pred (wordsOf Q)) 0 ≡ length (listsTo T Q (wordsOf Q))
+  last-end : getD (b .ends) (pred (wordCount Q)) 0 ≡ length (listsTo T Q (wordCount Q))
   last-end =
-      ap (λ z. getD z (pred (wordsOf Q)) 0) (s .ends ∙ kept-accepted r (endsFor T Q (wordsOf Q)) (l .ends) e) ∙
-      over-front (endsFor T Q (wordsOf Q)) (l .ends) (pred (wordsOf Q)) (omega (arith, ends-long T Q, less)) ∙ end-is T Q (wordsOf Q) (pred (wordsOf Q)) less ∙
-      ap (λ (z : ℕ). length (listsTo T Q z)) (same (wordsOf Q) some)
+      ap (λ z. getD z (pred (wordCount Q)) 0) (s .ends ∙ kept-accepted r (endsFor T Q (wordCount Q)) (l .ends) e) ∙
+      over-front (endsFor T Q (wordCount Q)) (l .ends) (pred (wordCount Q)) (omega (arith, ends-long T Q, less)) ∙ end-is T Q (wordCount Q) (pred (wordCount Q)) less ∙
+      ap (λ (z : ℕ). length (listsTo T Q z)) (same (wordCount Q) some)
     where
-      some : 1 ≤ wordsOf Q
+      some : 1 ≤ wordCount Q
       some = query-kept Q (built-passed .query) .some
 
       same : (k : ℕ) → 1 ≤ k → suc (pred k) ≡ k
       same zero h = absurd (not-suc-le-zero h)
       same (suc k) h = refl
 
-      less : pred (wordsOf Q) < wordsOf Q
-      less = omega (arith, same (wordsOf Q) some)
+      less : pred (wordCount Q) < wordCount Q
+      less = omega (arith, same (wordCount Q) some)
 
   pub handed-is : handed Q (r .total) b ≡ built T Q
   handed-is =
@@ -200,15 +200,15 @@ module _ (T : List ℕ) (Q : Query) (l : Lent) (r : Reply) (b : Lent) (s : Build
       (ap (λ (z : ℕ). take z (b .occurrences)) last-end ∙ cut (length (listsTo T Q k)) (listsTo T Q k) (l .occurrences) (b .occurrences) (s .occurrences) refl)
     where
       k : ℕ
-      k = wordsOf Q
+      k = wordCount Q
 
       n : ℕ
       n = length (treeOf T)
 
-  pub built-accepted : (w : List ℕ) → (wordsOf Q + 2) * r .total ≤ length w → checkReply (handed Q (r .total) b) w ≡ totalled accepted 0
+  pub built-accepted : (w : List ℕ) → (wordCount Q + 2) * r .total ≤ length w → checkReply (handed Q (r .total) b) w ≡ totalled accepted 0
   built-accepted w h =
       ap (λ I. checkReply I w) handed-is ∙
-      right-accepted (built T Q) w (built-sized T Q 8 (built-passed .query) (built-passed .judge) (length w) (omega (arith, h, ap (λ (z : ℕ). (wordsOf Q + 2) * z) total-nodes))) (built-right T Q (built-passed .judge))
+      right-accepted (built T Q) w (built-sized T Q 8 (built-passed .query) (built-passed .judge) (length w) (omega (arith, h, ap (λ (z : ℕ). (wordCount Q + 2) * z) total-nodes))) (built-right T Q (built-passed .judge))
 
-  pub built-checked : (w : List ℕ) → (wordsOf Q + 2) * r .total ≤ length w → (r′ : Reply) (w′ : List ℕ) → Checked (handed Q (r .total) b) w r′ w′ → r′ ≡ totalled accepted 0
+  pub built-checked : (w : List ℕ) → (wordCount Q + 2) * r .total ≤ length w → (r′ : Reply) (w′ : List ℕ) → Checked (handed Q (r .total) b) w r′ w′ → r′ ≡ totalled accepted 0
   built-checked w h r′ w′ c = c .reply ∙ built-accepted w h

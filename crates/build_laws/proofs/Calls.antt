@@ -27,7 +27,7 @@ use Rattle.judge.specs.Meaning.{BrokenAt, OverAt}
 use Rattle.judge.proofs.Meaning.{size-means, size-given, no-room, accepted-total, accepted-means, accepted-given, markup-means, markup-given, tree-means, tree-given}
 use Rattle.reader.specs.Read.{parentsOf, tagsIn, firstsOf, lastsOf}
 use Rattle.probing.specs.Table.{blank}
-use Rattle.query.specs.Query.{Query, wordsOf}
+use Rattle.query.specs.Query.{Query, wordCount}
 use Rattle.plan.specs.Lists.{wordTable, listsTo, tableOr}
 use Rattle.plan.specs.Plan.{slotsAfter}
 use Rattle.build.specs.Build.{Lent, sizes, lent, endsFor, countsFor, buildReply, Builds}
@@ -138,9 +138,9 @@ module _ (T : List ℕ) (Q : Query) (l : Lent) (r : Reply) (b : Lent) (s : Build
         kept (tagsIn (treeOf T)) (l .tags) (b .tags) (s .tags),
         kept (firstsOf (treeOf T)) (l .firsts) (b .firsts) (s .firsts),
         kept (lastsOf (treeOf T)) (l .lasts) (b .lasts) (s .lasts),
-        kept (endsFor T Q (wordsOf Q)) (l .ends) (b .ends) (s .ends),
-        kept (listsTo T Q (wordsOf Q)) (l .occurrences) (b .occurrences) (s .occurrences),
-        kept (countsFor T Q (wordsOf Q)) (l .counts) (b .counts) (s .counts),
+        kept (endsFor T Q (wordCount Q)) (l .ends) (b .ends) (s .ends),
+        kept (listsTo T Q (wordCount Q)) (l .occurrences) (b .occurrences) (s .occurrences),
+        kept (countsFor T Q (wordCount Q)) (l .counts) (b .counts) (s .counts),
         work-kept,
       )
 

@@ -9,3 +9,4 @@ pub mod Lists
 pub mod Elca
 pub mod Whole
 pub mod Cases
+pub mod Interface

@@ -19,18 +19,18 @@ use Rattle.profile.specs.Tags.{known}
 use Rattle.words.specs.Words.{documentWords}
 use Rattle.words.specs.Stands.{stands}
 use Rattle.words.proofs.Stands.{stands-known}
-use Rattle.query.specs.Query.{Query, asked, wordsOf}
+use Rattle.query.specs.Query.{Query, asked, wordCount}
 use Rattle.plan.specs.Lists.{listFor}
 use Rattle.build.specs.Build.{Lent, Builds}
 use Rattle.build_laws.specs.Calls.{handed, built}
 use Rattle.build_laws.proofs.Ends.{list-is}
 use Rattle.build_laws.proofs.Accepted.{total-nodes, handed-is}
 
-pub built-lists : (T : List ℕ) (Q : Query) (j : ℕ) → j < wordsOf Q → wanted (built T Q) j ≡ listed (length (treeOf T)) (stands T (asked Q j))
+pub built-lists : (T : List ℕ) (Q : Query) (j : ℕ) → j < wordCount Q → wanted (built T Q) j ≡ listed (length (treeOf T)) (stands T (asked Q j))
 unfolding listFor
-built-lists T Q j h = list-is T Q (wordsOf Q) j h
+built-lists T Q j h = list-is T Q (wordCount Q) j h
 
-module _ (T : List ℕ) (Q : Query) (l : Lent) (r : Reply) (b : Lent) (s : Builds T Q l r b) (e : r .refusal ≡ accepted) (j : ℕ) (h : j < wordsOf Q) where
+module _ (T : List ℕ) (Q : Query) (l : Lent) (r : Reply) (b : Lent) (s : Builds T Q l r b) (e : r .refusal ≡ accepted) (j : ℕ) (h : j < wordCount Q) where
   pub lists-stand : wanted (handed Q (r .total) b) j ≡ listed (r .total) (stands T (asked Q j))
   lists-stand =
       ap (λ I. wanted I j) (handed-is T Q l r b s e) ∙ built-lists T Q j h ∙

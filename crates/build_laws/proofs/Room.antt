@@ -18,7 +18,7 @@ use Rattle.seq.proofs.Laws.Numbers.{less-or}
 use Rattle.profile.specs.Reader.{treeOf}
 use Rattle.reader.specs.Read.{fits}
 use Rattle.reader.proofs.Reading.{Room, room-of}
-use Rattle.query.specs.Query.{Query, wordsOf}
+use Rattle.query.specs.Query.{Query, wordCount}
 use Rattle.plan.specs.Lists.{wordTable, listsTo, made}
 use Rattle.plan.specs.Plan.{treeFits, enough}
 use Rattle.build.specs.Build.{Lent, sizes}
@@ -53,17 +53,17 @@ module _ (T : List ℕ) (Q : Query) (l : Lent) where
   enough-of r =
       and-both _ _
       (and-both _ _ (tree-fits r)
-      (and-both _ _ (le-leb (wordsOf Q) (length (l .ends)) (r .ends)) (le-leb (wordsOf Q * nodes) (length (l .counts)) (r .counts))))
-      (and-both _ _ (table-made T (length (l .slots)) .1 (r .words)) (le-leb (length (listsTo T Q (wordsOf Q))) (length (l .occurrences)) (r .occurrences)))
+      (and-both _ _ (le-leb (wordCount Q) (length (l .ends)) (r .ends)) (le-leb (wordCount Q * nodes) (length (l .counts)) (r .counts))))
+      (and-both _ _ (table-made T (length (l .slots)) .1 (r .words)) (le-leb (length (listsTo T Q (wordCount Q))) (length (l .occurrences)) (r .occurrences)))
 
   module _ (e : enough T Q (length (l .slots)) (sizes l) ≡ true) where
-    fixed : (treeFits nodes (sizes l) && (leb (wordsOf Q) (length (l .ends)) && leb (wordsOf Q * nodes) (length (l .counts)))) ≡ true
-    fixed = unfold enough in and-left _ (made (wordTable T (length (l .slots))) && leb (length (listsTo T Q (wordsOf Q))) (length (l .occurrences))) e
+    fixed : (treeFits nodes (sizes l) && (leb (wordCount Q) (length (l .ends)) && leb (wordCount Q * nodes) (length (l .counts)))) ≡ true
+    fixed = unfold enough in and-left _ (made (wordTable T (length (l .slots))) && leb (length (listsTo T Q (wordCount Q))) (length (l .occurrences))) e
 
-    enough-table : (made (wordTable T (length (l .slots))) && leb (length (listsTo T Q (wordsOf Q))) (length (l .occurrences))) ≡ true
-    enough-table = unfold enough in and-right (treeFits nodes (sizes l) && (leb (wordsOf Q) (length (l .ends)) && leb (wordsOf Q * nodes) (length (l .counts)))) _ e
+    enough-table : (made (wordTable T (length (l .slots))) && leb (length (listsTo T Q (wordCount Q))) (length (l .occurrences))) ≡ true
+    enough-table = unfold enough in and-right (treeFits nodes (sizes l) && (leb (wordCount Q) (length (l .ends)) && leb (wordCount Q * nodes) (length (l .counts)))) _ e
 
-    rows : (leb (wordsOf Q) (length (l .ends)) && leb (wordsOf Q * nodes) (length (l .counts))) ≡ true
+    rows : (leb (wordCount Q) (length (l .ends)) && leb (wordCount Q * nodes) (length (l .counts))) ≡ true
     rows = and-right (treeFits nodes (sizes l)) _ fixed
 
     tree : Room nodes (length (l .parents)) (length (l .tags)) (length (l .firsts)) (length (l .lasts)) (length (l .work))
@@ -72,15 +72,15 @@ module _ (T : List ℕ) (Q : Query) (l : Lent) where
     enough-at : Enough T Q l
     enough-at =
         record {
-          words = table-made T (length (l .slots)) .0 (and-left _ (leb (length (listsTo T Q (wordsOf Q))) (length (l .occurrences))) enough-table);
+          words = table-made T (length (l .slots)) .0 (and-left _ (leb (length (listsTo T Q (wordCount Q))) (length (l .occurrences))) enough-table);
           parents = tree .parents;
           tags = tree .tags;
           firsts = tree .firsts;
           lasts = tree .lasts;
           work = tree .work;
-          ends = leb-true (wordsOf Q) (length (l .ends)) (and-left _ _ rows);
-          occurrences = leb-true (length (listsTo T Q (wordsOf Q))) (length (l .occurrences)) (and-right (made (wordTable T (length (l .slots)))) _ enough-table);
-          counts = leb-true (wordsOf Q * nodes) (length (l .counts)) (and-right (leb (wordsOf Q) (length (l .ends))) _ rows);
+          ends = leb-true (wordCount Q) (length (l .ends)) (and-left _ _ rows);
+          occurrences = leb-true (length (listsTo T Q (wordCount Q))) (length (l .occurrences)) (and-right (made (wordTable T (length (l .slots)))) _ enough-table);
+          counts = leb-true (wordCount Q * nodes) (length (l .counts)) (and-right (leb (wordCount Q) (length (l .ends))) _ rows);
         }
 
   pub enough-plain : (enough T Q (length (l .slots)) (sizes l) ≡ true) ↔ Enough T Q l

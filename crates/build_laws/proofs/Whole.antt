@@ -40,7 +40,7 @@ use Rattle.judge.specs.Judge.{judgeReply}
 use Rattle.reader.specs.Read.{parentsOf}
 use Rattle.words.specs.Stands.{stands}
 use Rattle.words.proofs.Stands.{stands-known}
-use Rattle.query.specs.Query.{Query, asked, wordsOf}
+use Rattle.query.specs.Query.{Query, asked, wordCount}
 use Rattle.build.proofs.Replying.{build-unique}
 use Rattle.build.specs.Build.{Lent, Builds}
 use Rattle.build.proofs.Whole.{parents-long, parents-down}
@@ -53,7 +53,7 @@ use Rattle.build_laws.proofs.Lists.{built-lists}
 -- ---- the search on what was built
 -- The lists are where the words stand, as `at` says.
 abbrev Stand : List ℕ → Query → (ℕ → ℕ → Bool) → Type 0
-Stand T Q at = (j : ℕ) → j < wordsOf Q → wanted (built T Q) j ≡ listed (length (parentsOf (treeOf T))) (at j)
+Stand T Q at = (j : ℕ) → j < wordCount Q → wanted (built T Q) j ≡ listed (length (parentsOf (treeOf T))) (at j)
 
 text-stand : (T : List ℕ) (Q : Query) → Stand T Q (textAt T Q)
 text-stand T Q j l = built-lists T Q j l ∙ ap (λ (n : ℕ). listed n (textAt T Q j)) (sym (parents-long T))
@@ -66,13 +66,13 @@ document-stand T Q d e j l =
     (λ v h. ap (λ t. stands t (asked Q j) v) (sym e) ∙ stands-known d (asked Q j) v) (λ v h. refl)
 
 built-elca : (T : List ℕ) (Q : Query) → judgeReply T .refusal ≡ accepted → (at : ℕ → ℕ → Bool) → Stand T Q at →
-    (v : ℕ) → (isElca (built T Q) v ≡ true) ↔ WordsElca (parentsOf (treeOf T)) (wordsOf Q) at v
+    (v : ℕ) → (isElca (built T Q) v ≡ true) ↔ WordsElca (parentsOf (treeOf T)) (wordCount Q) at v
 unfolding isElca
 built-elca T Q e at lists v =
     let p = parentsOf (treeOf T) in
     let W = wanted (built T Q) in
-    let plain = elca-plain p (parents-down T e) (wordsOf Q) W (each-below p (wordsOf Q) at W lists) v in
-    let words = elca-words p (wordsOf Q) at W lists v in
+    let plain = elca-plain p (parents-down T e) (wordCount Q) W (each-below p (wordCount Q) at W lists) v in
+    let words = elca-words p (wordCount Q) at W lists v in
     (λ q. words .0 (plain .0 q), λ q. plain .1 (words .1 q))
 
 -- The answers fit what is lent.
@@ -102,17 +102,17 @@ module _ (T : List ℕ) (Q : Query) (l : Lent) (r : Reply) (b : Lent) (a : Build
   judge = built-passed T Q l r b a e .judge
 
   -- ---- the reply
-  pub search-replies : (wordsOf Q + 2) * r .total ≤ length w →
+  pub search-replies : (wordCount Q + 2) * r .total ≤ length w →
       r′ ≡ roomed (handed Q (r .total) b) (isElca (handed Q (r .total) b)) (fitting (handed Q (r .total) b) o s)
   unfolding elcaReply
   search-replies h =
       searched .reply ∙
       clean-reply 0 (built T Q) (length w) (roomed (built T Q) (isElca (built T Q)) (fitting (built T Q) o s))
       (right-clean 0 (built T Q) (length w)
-      (built-sized T Q 0 (built-passed T Q l r b a e .query) judge (length w) (omega (arith, h, ap (λ (z : ℕ). (wordsOf Q + 2) * z) (total-nodes T Q l r b a e))))
+      (built-sized T Q 0 (built-passed T Q l r b a e .query) judge (length w) (omega (arith, h, ap (λ (z : ℕ). (wordCount Q + 2) * z) (total-nodes T Q l r b a e))))
       (built-right T Q judge)) ∙ ap (λ I. roomed I (isElca I) (fitting I o s)) (sym same)
 
-  pub search-cases : (wordsOf Q + 2) * r .total ≤ length w → (r′ .refusal ≡ accepted) ⊎ (r′ .refusal ≡ ROOM)
+  pub search-cases : (wordCount Q + 2) * r .total ≤ length w → (r′ .refusal ≡ accepted) ⊎ (r′ .refusal ≡ ROOM)
   unfolding roomed
   search-cases h = by (fitting (handed Q (r .total) b) o s) (ap (λ (r : Reply). r .refusal) (search-replies h))
     where
@@ -120,10 +120,10 @@ module _ (T : List ℕ) (Q : Query) (l : Lent) (r : Reply) (b : Lent) (a : Build
       by true q = inl q
       by false q = inr q
 
-  pub search-fits : (wordsOf Q + 2) * r .total ≤ length w → r .total ≤ length o → wordsOf Q * r .total ≤ length s → r′ .refusal ≡ accepted
+  pub search-fits : (wordCount Q + 2) * r .total ≤ length w → r .total ≤ length o → wordCount Q * r .total ≤ length s → r′ .refusal ≡ accepted
   unfolding roomed
   search-fits h g f =
-      ap (λ (r : Reply). r .refusal) (search-replies h) ∙ ap (λ z. cond z accepted ROOM) (ap (λ I. fitting I o s) same ∙ few-fit (built T Q) o s (omega (arith, g, long)) (omega (arith, f, ap (λ (z : ℕ). wordsOf Q * z) long)))
+      ap (λ (r : Reply). r .refusal) (search-replies h) ∙ ap (λ z. cond z accepted ROOM) (ap (λ I. fitting I o s) same ∙ few-fit (built T Q) o s (omega (arith, g, long)) (omega (arith, f, ap (λ (z : ℕ). wordCount Q * z) long)))
     where
       long : r .total ≡ nodes (built T Q)
       long = total-nodes T Q l r b a e ∙ sym (parents-long T)
@@ -166,18 +166,18 @@ module _ (T : List ℕ) (Q : Query) (l : Lent) (r : Reply) (b : Lent) (a : Build
         (subst (FirstAre (nodes (built T Q)) (λ v. isElca (built T Q) v ≡ true) (length (listed (nodes (built T Q)) (isElca (built T Q))))) (sym whole-list)
         (first-are-listed (nodes (built T Q)) (isElca (built T Q)) o room-listed)))
 
-    by-words : (at : ℕ → ℕ → Bool) → Stand T Q at → FirstAre (r .total) (WordsElca (parentsOf (treeOf T)) (wordsOf Q) at) (r′ .total) o′
+    by-words : (at : ℕ → ℕ → Bool) → Stand T Q at → FirstAre (r .total) (WordsElca (parentsOf (treeOf T)) (wordCount Q) at) (r′ .total) o′
     by-words at lists =
-        first-are-map (r .total) (λ v. isElca (built T Q) v ≡ true) (WordsElca (parentsOf (treeOf T)) (wordsOf Q) at) (r′ .total) o′
+        first-are-map (r .total) (λ v. isElca (built T Q) v ≡ true) (WordsElca (parentsOf (treeOf T)) (wordCount Q) at) (r′ .total) o′
         (λ v h. built-elca T Q judge at lists v .0) (λ v h. built-elca T Q judge at lists v .1) listed-first
 
-    pub whole-way : FirstAre (r .total) (WordsElca (parentsOf (treeOf T)) (wordsOf Q) (textAt T Q)) (r′ .total) o′
+    pub whole-way : FirstAre (r .total) (WordsElca (parentsOf (treeOf T)) (wordCount Q) (textAt T Q)) (r′ .total) o′
     whole-way = by-words (textAt T Q) (text-stand T Q)
 
-    pub whole-way-document : (d : Document) → text d ≡ T → FirstAre (length (tree d)) (WordsElca (parentsOf (tree d)) (wordsOf Q) (documentAt d Q)) (r′ .total) o′
+    pub whole-way-document : (d : Document) → text d ≡ T → FirstAre (length (tree d)) (WordsElca (parentsOf (tree d)) (wordCount Q) (documentAt d Q)) (r′ .total) o′
     whole-way-document d x =
-        subst (λ (n : ℕ). FirstAre n (WordsElca (parentsOf (tree d)) (wordsOf Q) (documentAt d Q)) (r′ .total) o′) (total-nodes T Q l r b a e ∙ ap length tree-is)
-        (subst (λ ns. FirstAre (r .total) (WordsElca (parentsOf ns) (wordsOf Q) (documentAt d Q)) (r′ .total) o′) tree-is (by-words (documentAt d Q) (document-stand T Q d x)))
+        subst (λ (n : ℕ). FirstAre n (WordsElca (parentsOf (tree d)) (wordCount Q) (documentAt d Q)) (r′ .total) o′) (total-nodes T Q l r b a e ∙ ap length tree-is)
+        (subst (λ ns. FirstAre (r .total) (WordsElca (parentsOf ns) (wordCount Q) (documentAt d Q)) (r′ .total) o′) tree-is (by-words (documentAt d Q) (document-stand T Q d x)))
       where
         tree-is : treeOf T ≡ tree d
         tree-is = ap treeOf (sym x) ∙ tree-read d

@@ -15,7 +15,7 @@ use Rattle.index.specs.Contracts.{lent}
 use Rattle.profile.specs.Reader.{treeOf}
 use Rattle.judge.specs.Meaning.{Kept}
 use Rattle.reader.specs.Read.{Lent as Rows, parentsOf, tagsIn}
-use Rattle.query.specs.Query.{Query, wordsOf}
+use Rattle.query.specs.Query.{Query, wordCount}
 use Rattle.query.specs.Plain.{IsQuery}
 use Rattle.plan.specs.Lists.{listsTo}
 use Rattle.build.specs.Build.{Lent, endsFor, countsFor}
@@ -24,11 +24,11 @@ use Rattle.build_laws.specs.Words.{newPlaces}
 -- ---- the index
 abbrev pub handed : Query → ℕ → Lent → Index
 handed Q n b =
-    lent (take n (b .parents)) (take n (b .tags)) (wordsOf Q) 0 (take (wordsOf Q) (b .ends)) (take (getD (b .ends) (pred (wordsOf Q)) 0) (b .occurrences))
-    (take (wordsOf Q * n) (b .counts))
+    lent (take n (b .parents)) (take n (b .tags)) (wordCount Q) 0 (take (wordCount Q) (b .ends)) (take (getD (b .ends) (pred (wordCount Q)) 0) (b .occurrences))
+    (take (wordCount Q * n) (b .counts))
 
 abbrev pub built : List ℕ → Query → Index
-built T Q = lent (parentsOf (treeOf T)) (tagsIn (treeOf T)) (wordsOf Q) 0 (endsFor T Q (wordsOf Q)) (listsTo T Q (wordsOf Q)) (countsFor T Q (wordsOf Q))
+built T Q = lent (parentsOf (treeOf T)) (tagsIn (treeOf T)) (wordCount Q) 0 (endsFor T Q (wordCount Q)) (listsTo T Q (wordCount Q)) (countsFor T Q (wordCount Q))
 
 abbrev pub rows : Lent → Rows
 rows l = record { parents = l .parents; tags = l .tags; firsts = l .firsts; lasts = l .lasts; work = l .work }
@@ -41,9 +41,9 @@ pub record Enough (T : List ℕ) (Q : Query) (l : Lent) : Type 0 where
   pub firsts : length (treeOf T) ≤ length (l .firsts)
   pub lasts : length (treeOf T) ≤ length (l .lasts)
   pub work : 3 * length (treeOf T) ≤ length (l .work)
-  pub ends : wordsOf Q ≤ length (l .ends)
-  pub occurrences : length (listsTo T Q (wordsOf Q)) ≤ length (l .occurrences)
-  pub counts : wordsOf Q * length (treeOf T) ≤ length (l .counts)
+  pub ends : wordCount Q ≤ length (l .ends)
+  pub occurrences : length (listsTo T Q (wordCount Q)) ≤ length (l .occurrences)
+  pub counts : wordCount Q * length (treeOf T) ≤ length (l .counts)
 
 pub record Taken (T : List ℕ) (Q : Query) (l : Lent) (n : ℕ) : Type 0 where
   pub query : IsQuery Q

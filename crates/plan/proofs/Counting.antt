@@ -26,7 +26,7 @@ use Rattle.inplace.specs.declared.Hashed.{Hashed}
 use Rattle.mentions.specs.declared.Seen.{Seen}
 use Rattle.dictionary.specs.Slots.{places, Entered, tableOf}
 use Rattle.dictionary.proofs.Laws.{insert-enters, insert-fails, entered-long}
-use Rattle.query.specs.Query.{Query, asked, wordsOf}
+use Rattle.query.specs.Query.{Query, asked, wordCount}
 use Rattle.plan.specs.Lists.{placesOf, wordTable, listsTo, made, tableOr}
 use Rattle.plan.specs.Inner.{hits, newAt, Tallied, Gathers, WordsPre}
 use Rattle.plan.specs.declared.gather.Gathered.{Gathered}
@@ -36,14 +36,14 @@ use Rattle.plan.proofs.Passing.{left, Nexts}
 
 -- What is still to be counted.
 abbrev due : List ℕ → Query → List ℕ → List Mention → ℕ
-due T Q L M = sumBelow (wordsOf Q) λ j. length (hits T (asked Q j) (getD L j 0) M)
+due T Q L M = sumBelow (wordCount Q) λ j. length (hits T (asked Q j) (getD L j 0) M)
 
 pub record Counting (T : List ℕ) (Q : Query) (m : ℕ) (w L : List ℕ) (i : ℕ) (g b : Bool) (v total : ℕ) : Type 0 where
   pub within : everyOf (below (length (treeOf T))) (left T i g b v) ≡ true
   pub long : length w ≡ m
   pub lasts : length L ≡ 8
   pub table : fill m hashOf (wordAt T) (placesOf (left T i g b v)) w ≡ wordTable T m
-  pub count : total + due T Q L (left T i g b v) ≡ length (listsTo T Q (wordsOf Q))
+  pub count : total + due T Q L (left T i g b v) ≡ length (listsTo T Q (wordCount Q))
 
 pub counting-start : (T : List ℕ) (Q : Query) (h L w : List ℕ) → WordsPre T Q h L w → Counting T Q (length w) w L 0 false false 0 0
 unfolding wordTable tableOf mentionsIn
@@ -53,7 +53,7 @@ counting-start T Q h L w pre =
       long = refl;
       lasts = ap length (pre .lasts) ∙ length-replicate {A = ℕ} 8 0;
       table = ap (fill (length w) hashOf (wordAt T) (placesOf (mentionsIn T))) (pre .free);
-      count = ap (λ (x : ℕ). 0 + x) (sum-ext (wordsOf Q) _ _ (λ j l. ap (λ (u : ℕ). length (hits T (asked Q j) u (mentionsIn T))) (first j))) ∙ omega (arith, lists-length T t Q (wordsOf Q));
+      count = ap (λ (x : ℕ). 0 + x) (sum-ext (wordCount Q) _ _ (λ j l. ap (λ (u : ℕ). length (hits T (asked Q j) u (mentionsIn T))) (first j))) ∙ omega (arith, lists-length T t Q (wordCount Q));
     }
   where
     t : TextKept T
@@ -83,7 +83,7 @@ module _ (T : List ℕ) (Q : Query) (m : ℕ) (w L : List ℕ) (i : ℕ) (g b : 
         }
       where
         none-due : due T Q L [] ≡ 0
-        none-due = unfold hits in sum-none (wordsOf Q) _ (λ j q. refl)
+        none-due = unfold hits in sum-none (wordCount Q) _ (λ j q. refl)
 
   module _ (d : Seen) (h : Hashed) (x : Nexts T i g b v d h) where
     abbrev node : ℕ
@@ -127,7 +127,7 @@ module _ (T : List ℕ) (Q : Query) (m : ℕ) (w L : List ℕ) (i : ℕ) (g b : 
           insert-enters T (d .place) (h .hash) w place-fits (x .own) (sym (en .reply) ∙ yes) ∙ ap some (sym (en .table))
 
       -- One word: new at this node or not.
-      one : (j : ℕ) → j < wordsOf Q →
+      one : (j : ℕ) → j < wordCount Q →
           length (hits T (asked Q j) (getD L j 0) (mention node (d .place) ∷ after)) ≡ cond (newAt T (d .place) node Q L j) 1 0 + length (hits T (asked Q j) (getD L′ j 0) after)
       unfolding hits
       one j l = by (newAt T (d .place) node Q L j) (ta .each j l)
@@ -139,12 +139,12 @@ module _ (T : List ℕ) (Q : Query) (m : ℕ) (w L : List ℕ) (i : ℕ) (g b : 
 
       all : due T Q L (left T i g b v) ≡ r + due T Q L′ after
       all =
-          ap (due T Q L) (x .more) ∙ sum-ext (wordsOf Q) _ _ one ∙
-          sum-add (wordsOf Q) (λ j. cond (newAt T (d .place) node Q L j) 1 0) (λ j. length (hits T (asked Q j) (getD L′ j 0) after)) ∙
+          ap (due T Q L) (x .more) ∙ sum-ext (wordCount Q) _ _ one ∙
+          sum-add (wordCount Q) (λ j. cond (newAt T (d .place) node Q L j) 1 0) (λ j. length (hits T (asked Q j) (getD L′ j 0) after)) ∙
           ap (λ (z : ℕ). z + due T Q L′ after) (sym (ta .count))
 
       pub total-small : (q : IsQuery Q) → total + r ≤ 524288
-      total-small q = omega (arith, s .count, all, lists-small T t Q (wordsOf Q), q .few)
+      total-small q = omega (arith, s .count, all, lists-small T t Q (wordCount Q), q .few)
 
       pub counting-step : Counting T Q m w′ L′ (h .end) (d .tag) (d .solid) node (total + r)
       unfolding fill

@@ -19,7 +19,7 @@ use Rattle.seq.proofs.Laws.Sums.{sum-zero, sum-suc}
 use Rattle.index.specs.Index.{start}
 use Rattle.words.specs.Runs.{Word, lower}
 use Rattle.words.specs.Reading.{wordAt}
-use Rattle.query.specs.Query.{Query, wordsOf}
+use Rattle.query.specs.Query.{Query, wordCount}
 use Rattle.plan.specs.Inner.{isNew, newAt, Tallied}
 use Rattle.query.specs.Plain.{IsQuery}
 use Rattle.query.proofs.Kept.{part-is, part-next}
@@ -35,7 +35,7 @@ new-asked T i q v u n = sym (ap (λ z. not z && sameList q (wordAt T i)) (ne-eqb
 
 -- ---- tally
 pub record Tallying (T : List ℕ) (i v : ℕ) (Q : Query) (L₀ L : List ℕ) (r f j : ℕ) : Type 0 where
-  pub within : j ≤ wordsOf Q
+  pub within : j ≤ wordCount Q
   pub long : length L ≡ 8
   pub begins : f ≡ start (Q .ends) j
   pub count : r ≡ sumBelow j (λ y. cond (newAt T i v Q L₀ y) 1 0)
@@ -48,7 +48,7 @@ unfolding start
 tallying-start T i v Q L e =
     record { within = zero-le; long = e; begins = refl; count = sym (sum-zero _); small = zero-le; done = λ y l. absurd (not-suc-le-zero l); rest = λ y l. refl }
 
-module _ (T : List ℕ) (i v : ℕ) (Q : Query) (L₀ L : List ℕ) (r f j : ℕ) (q : IsQuery Q) (s : Tallying T i v Q L₀ L r f j) (l : j < wordsOf Q) where
+module _ (T : List ℕ) (i v : ℕ) (Q : Query) (L₀ L : List ℕ) (r f j : ℕ) (q : IsQuery Q) (s : Tallying T i v Q L₀ L r f j) (l : j < wordCount Q) where
   pub last-fits : j < length L
   last-fits = omega (arith, q .few, s .long)
 
@@ -101,7 +101,7 @@ module _ (T : List ℕ) (i v : ℕ) (Q : Query) (L₀ L : List ℕ) (r f j : ℕ
           rest = λ y m. s .rest y (omega arith);
         }
 
-pub tallying-end : (T : List ℕ) (i v : ℕ) (Q : Query) (L₀ L : List ℕ) (r f j : ℕ) → Tallying T i v Q L₀ L r f j → wordsOf Q ≤ j → Tallied T i v Q L₀ r L
+pub tallying-end : (T : List ℕ) (i v : ℕ) (Q : Query) (L₀ L : List ℕ) (r f j : ℕ) → Tallying T i v Q L₀ L r f j → wordCount Q ≤ j → Tallied T i v Q L₀ r L
 tallying-end T i v Q L₀ L r f j s l =
-    let all : j ≡ wordsOf Q = omega (arith, s .within) in
+    let all : j ≡ wordCount Q = omega (arith, s .within) in
     record { long = s .long; count = s .count ∙ ap (λ (z : ℕ). sumBelow z (λ y. cond (newAt T i v Q L₀ y) 1 0)) all; each = λ y m. s .done y (omega arith) }

@@ -19,7 +19,7 @@ use Rattle.judge.specs.Judge.{judgeReply}
 use Rattle.judge.proofs.Meaning as judged
 use Rattle.reader.proofs.Reading.{counted}
 use Rattle.probing.specs.Table.{blank}
-use Rattle.query.specs.Query.{Query, queryOk, wordsOf}
+use Rattle.query.specs.Query.{Query, queryOk, wordCount}
 use Rattle.plan.specs.Lists.{wordTable, listsTo, made, tableOr}
 use Rattle.plan.specs.Plan.{enough, planReply, slotsAfter, Plans}
 use Rattle.plan.specs.Inner.{roomy, NoRoom}
@@ -41,7 +41,7 @@ slots-blank T w = refl
 
 -- ---- what fits, but for the table and the lists
 abbrev pub roomIn : ℕ → Query → Sizes → Bool
-roomIn n Q s = roomy n (wordsOf Q) (s .parents) (s .tags) (s .firsts) (s .lasts) (s .work) (s .ends) (s .counts)
+roomIn n Q s = roomy n (wordCount Q) (s .parents) (s .tags) (s .firsts) (s .lasts) (s .work) (s .ends) (s .counts)
 
 -- How many entries the lists have together, where the reply is accepted.
 total-none : (r : Reply) (x : ℕ) → (r .refusal ≡ accepted → ⊥) → 0 ≡ cond (eqb (r .refusal) accepted) x 0
@@ -91,7 +91,7 @@ module _ (T : List ℕ) (Q : Query) (s : Sizes) (w : List ℕ) where
               record {
                 reply = x .reply ∙ sym (taken (refused ROOM 0) (cond-false (enough T Q (length w) s) h _ _));
                 slots = x .slots ∙ ap blank same ∙ slots-blank T w ∙ ap (slotsAfter T w) (sym (x .reply));
-                total = x .total ∙ ap (λ (r : Reply). cond (eqb (r .refusal) accepted) (length (listsTo T Q (wordsOf Q))) 0) (sym (x .reply));
+                total = x .total ∙ ap (λ (r : Reply). cond (eqb (r .refusal) accepted) (length (listsTo T Q (wordCount Q))) 0) (sym (x .reply));
               }
 
           pub no-rows : roomIn n Q s ≡ false → Plans T Q s w p w′
@@ -102,22 +102,22 @@ module _ (T : List ℕ) (Q : Query) (s : Sizes) (w : List ℕ) where
           unfolding enough roomy
           no-table h = room-plans (and-false-right (roomIn (length (treeOf T)) Q s) _ (and-false-left _ _ h))
 
-          pub no-lists : s .occurrences < length (listsTo T Q (wordsOf Q)) → Plans T Q s w p w′
+          pub no-lists : s .occurrences < length (listsTo T Q (wordCount Q)) → Plans T Q s w p w′
           unfolding enough roomy
           no-lists h =
               room-plans
               (and-false-right (roomIn (length (treeOf T)) Q s) _
-              (and-false-right (made (wordTable T (length w))) _ (lt-leb (length (listsTo T Q (wordsOf Q))) (s .occurrences) h)))
+              (and-false-right (made (wordTable T (length w))) _ (lt-leb (length (listsTo T Q (wordCount Q))) (s .occurrences) h)))
 
         -- ---- acceptance
-        module _ (roomed : roomIn n Q s ≡ true) (table : made (wordTable T (length w)) ≡ true) (few : length (listsTo T Q (wordsOf Q)) ≤ s .occurrences) where
+        module _ (roomed : roomIn n Q s ≡ true) (table : made (wordTable T (length w)) ≡ true) (few : length (listsTo T Q (wordCount Q)) ≤ s .occurrences) where
           all-fits : enough T Q (length w) s ≡ true
           unfolding enough roomy
           all-fits =
               and-both (roomIn (length (treeOf T)) Q s) _ (ap (λ n. roomIn n Q s) count ∙ roomed)
-              (and-both (made (wordTable T (length w))) _ table (le-leb (length (listsTo T Q (wordsOf Q))) (s .occurrences) few))
+              (and-both (made (wordTable T (length w))) _ table (le-leb (length (listsTo T Q (wordCount Q))) (s .occurrences) few))
 
-          pub all-plans : (w′ : List ℕ) → w′ ≡ tableOr w (wordTable T (length w)) → (m : ℕ) → m ≡ length (listsTo T Q (wordsOf Q)) → Plans T Q s w (plan r m) w′
+          pub all-plans : (w′ : List ℕ) → w′ ≡ tableOr w (wordTable T (length w)) → (m : ℕ) → m ≡ length (listsTo T Q (wordCount Q)) → Plans T Q s w (plan r m) w′
           all-plans w′ f m h =
               record {
                 reply = e ∙ sym (taken (judgeReply T) (cond-true (enough T Q (length w) s) all-fits _ _));
@@ -129,4 +129,4 @@ module _ (T : List ℕ) (Q : Query) (s : Sizes) (w : List ℕ) where
 pub plan-unique : (T : List ℕ) (Q : Query) (s : Sizes) (w : List ℕ) (p p′ : Planned) (v v′ : List ℕ) → Plans T Q s w p v → Plans T Q s w p′ v′ → (p ≡ p′) × (v ≡ v′)
 plan-unique T Q s w p p′ v v′ x y =
     let same : p .reply ≡ p′ .reply = x .reply ∙ sym (y .reply) in
-    (ap₂ plan same (x .total ∙ ap (λ (r : Reply). cond (eqb (r .refusal) accepted) (length (listsTo T Q (wordsOf Q))) 0) same ∙ sym (y .total)), x .slots ∙ ap (slotsAfter T w) same ∙ sym (y .slots))
+    (ap₂ plan same (x .total ∙ ap (λ (r : Reply). cond (eqb (r .refusal) accepted) (length (listsTo T Q (wordCount Q))) 0) same ∙ sym (y .total)), x .slots ∙ ap (slotsAfter T w) same ∙ sym (y .slots))

@@ -22,7 +22,7 @@ use Rattle.probing.specs.Table.{blank}
 use Rattle.words.specs.Runs.{Word, lower}
 use Rattle.words.specs.Places.{Mention}
 use Rattle.words.specs.Reading.{wordAt}
-use Rattle.query.specs.Query.{Query, asked, wordsOf, queryOk, Hashes}
+use Rattle.query.specs.Query.{Query, asked, wordCount, queryOk, Hashes}
 use Rattle.plan.specs.Lists.{wordTable, listsTo, made, tableOr}
 use Rattle.plan.specs.declared.gather.Gathered.{Gathered}
 use Rattle.plan.specs.declared.Planned.{Planned}
@@ -53,8 +53,8 @@ newAt T i v Q L j = isNew T i (asked Q j) v (getD L j 0)
 
 pub record Tallied (T : List ℕ) (i v : ℕ) (Q : Query) (L : List ℕ) (r : ℕ) (L′ : List ℕ) : Type 0 where
   pub long : length L′ ≡ 8
-  pub count : r ≡ sumBelow (wordsOf Q) (λ j. cond (newAt T i v Q L j) 1 0)
-  pub each : (j : ℕ) → j < wordsOf Q → getD L′ j 0 ≡ cond (newAt T i v Q L j) (suc v) (getD L j 0)
+  pub count : r ≡ sumBelow (wordCount Q) (λ j. cond (newAt T i v Q L j) 1 0)
+  pub each : (j : ℕ) → j < wordCount Q → getD L′ j 0 ≡ cond (newAt T i v Q L j) (suc v) (getD L j 0)
 
 pub record GatherPre (T : List ℕ) (Q : Query) : Type 0 where
   pub ok : queryOk Q ≡ true
@@ -70,7 +70,7 @@ pub record Gathers (T : List ℕ) (Q : Query) (w : List ℕ) (r : Gathered) (w�
   pub long : length w′ ≡ length w
   pub fits : r .fits ≡ made (wordTable T (length w))
   pub table : r .fits ≡ true → w′ ≡ tableOr w (wordTable T (length w))
-  pub total : r .fits ≡ true → r .total ≡ length (listsTo T Q (wordsOf Q))
+  pub total : r .fits ≡ true → r .total ≡ length (listsTo T Q (wordCount Q))
 
 -- ---- room
 unfoldable pub roomy : ℕ → ℕ → ℕ → ℕ → ℕ → ℕ → ℕ → ℕ → ℕ → Bool

@@ -16,7 +16,7 @@ use Rattle.profile.specs.Reader.{treeOf}
 use Rattle.judge.specs.Judge.{judgeReply}
 use Rattle.reader.specs.Read.{fits}
 use Rattle.probing.specs.Table.{blank}
-use Rattle.query.specs.Query.{Query, wordsOf, queryOk}
+use Rattle.query.specs.Query.{Query, wordCount, queryOk}
 use Rattle.plan.specs.Lists.{wordTable, made, tableOr, listsTo}
 use Rattle.plan.specs.declared.Sizes.{Sizes}
 use Rattle.plan.specs.declared.Planned.{Planned}
@@ -26,8 +26,8 @@ treeFits n z = fits n (z .parents) (z .tags) (z .firsts) (z .lasts) (z .work)
 
 unfoldable pub enough : List ℕ → Query → ℕ → Sizes → Bool
 enough T Q m z =
-    (treeFits (length (treeOf T)) z && (leb (wordsOf Q) (z .ends) && leb (wordsOf Q * length (treeOf T)) (z .counts))) &&
-    (made (wordTable T m) && leb (length (listsTo T Q (wordsOf Q))) (z .occurrences))
+    (treeFits (length (treeOf T)) z && (leb (wordCount Q) (z .ends) && leb (wordCount Q * length (treeOf T)) (z .counts))) &&
+    (made (wordTable T m) && leb (length (listsTo T Q (wordCount Q))) (z .occurrences))
 
 unfoldable pub planReply : List ℕ → Query → ℕ → Sizes → Reply
 planReply T Q m z =
@@ -42,4 +42,4 @@ slotsAfter T w r =
 pub record Plans (T : List ℕ) (Q : Query) (z : Sizes) (w : List ℕ) (r : Planned) (w′ : List ℕ) : Type 0 where
   pub reply : r .reply ≡ planReply T Q (length w) z
   pub slots : w′ ≡ slotsAfter T w (r .reply)
-  pub total : r .total ≡ cond (eqb (r .reply .refusal) accepted) (length (listsTo T Q (wordsOf Q))) 0
+  pub total : r .total ≡ cond (eqb (r .reply .refusal) accepted) (length (listsTo T Q (wordCount Q))) 0

@@ -24,7 +24,7 @@ use Rattle.index.specs.Index.{start}
 use Rattle.fnv.specs.Fnv.{hashOf}
 use Rattle.words.specs.Runs.{Word, lower}
 use Rattle.words.specs.Reading.{wordAt}
-use Rattle.query.specs.Query.{Query, asked, wordsOf, queryOk, hashesOf, hashesAfter, Hashes}
+use Rattle.query.specs.Query.{Query, asked, wordCount, queryOk, hashesOf, hashesAfter, Hashes}
 use Rattle.query.specs.Plain.{IsQuery}
 use Rattle.query.specs.Inner.{HashPre}
 use Rattle.query.proofs.Kept.{part-is, part-next, query-kept}
@@ -34,7 +34,7 @@ abbrev hashAt : Query → ℕ → ℕ
 hashAt Q j = hashOf (asked Q j)
 
 pub record Hashing (Q : Query) (d h : List ℕ) (f j : ℕ) : Type 0 where
-  pub within : j ≤ wordsOf Q
+  pub within : j ≤ wordCount Q
   pub begins : f ≡ start (Q .ends) j
   pub filled : Filling (hashAt Q) d h j
 
@@ -42,7 +42,7 @@ pub hashing-start : (Q : Query) (d : List ℕ) → Hashing Q d d 0 0
 unfolding start
 hashing-start Q d = record { within = zero-le; begins = refl; filled = filling-start (hashAt Q) d }
 
-module _ (Q : Query) (d h : List ℕ) (f j : ℕ) (pre : HashPre Q d) (s : Hashing Q d h f j) (l : j < wordsOf Q) where
+module _ (Q : Query) (d h : List ℕ) (f j : ℕ) (pre : HashPre Q d) (s : Hashing Q d h f j) (l : j < wordCount Q) where
   pub slot-fits : j < length h
   slot-fits = omega (arith, pre .room, s .filled .long)
 
@@ -55,23 +55,23 @@ module _ (Q : Query) (d h : List ℕ) (f j : ℕ) (pre : HashPre Q d) (s : Hashi
         filled = filling-step (hashAt Q) d h j x (s .filled) (omega (arith, pre .room)) (p ∙ ap hashOf (part-is Q q j f t l (s .begins) e));
       }
 
-pub hashing-end : (Q : Query) (d h : List ℕ) (f j : ℕ) → Hashing Q d h f j → wordsOf Q ≤ j → h ≡ over (hashesOf Q) d
+pub hashing-end : (Q : Query) (d h : List ℕ) (f j : ℕ) → Hashing Q d h f j → wordCount Q ≤ j → h ≡ over (hashesOf Q) d
 unfolding hashesOf
-hashing-end Q d h f j s l = let all : j ≡ wordsOf Q = omega (arith, s .within) in s .filled .front ∙ ap (λ (z : ℕ). over (tabulate z (hashAt Q)) d) all
+hashing-end Q d h f j s l = let all : j ≡ wordCount Q = omega (arith, s .within) in s .filled .front ∙ ap (λ (z : ℕ). over (tabulate z (hashAt Q)) d) all
 
 -- ---- hash_words
 module _ (Q : Query) (h : List ℕ) where
   pub no-query : queryOk Q ≡ false → h ≡ hashesAfter Q h
   unfolding hashesAfter
-  no-query e = sym (cond-false (queryOk Q && leb (wordsOf Q) (length h)) (and-false-left _ _ e) _ _)
+  no-query e = sym (cond-false (queryOk Q && leb (wordCount Q) (length h)) (and-false-left _ _ e) _ _)
 
-  pub no-room : length h < wordsOf Q → h ≡ hashesAfter Q h
+  pub no-room : length h < wordCount Q → h ≡ hashesAfter Q h
   unfolding hashesAfter
-  no-room l = sym (cond-false (queryOk Q && leb (wordsOf Q) (length h)) (and-false-right (queryOk Q) _ (lt-leb (wordsOf Q) (length h) l)) _ _)
+  no-room l = sym (cond-false (queryOk Q && leb (wordCount Q) (length h)) (and-false-right (queryOk Q) _ (lt-leb (wordCount Q) (length h) l)) _ _)
 
-  pub with-room : queryOk Q ≡ true → wordsOf Q ≤ length h → over (hashesOf Q) h ≡ hashesAfter Q h
+  pub with-room : queryOk Q ≡ true → wordCount Q ≤ length h → over (hashesOf Q) h ≡ hashesAfter Q h
   unfolding hashesAfter
-  with-room e l = sym (cond-true (queryOk Q && leb (wordsOf Q) (length h)) (and-both (queryOk Q) _ e (le-leb (wordsOf Q) (length h) l)) _ _)
+  with-room e l = sym (cond-true (queryOk Q && leb (wordCount Q) (length h)) (and-both (queryOk Q) _ e (le-leb (wordCount Q) (length h) l)) _ _)
 
 pub hash-words-unique : (Q : Query) (d h h′ : List ℕ) → h ≡ hashesAfter Q d → h′ ≡ hashesAfter Q d → h ≡ h′
 hash-words-unique Q d h h′ a b = a ∙ sym b
@@ -81,17 +81,17 @@ pub hashes-of : (Q : Query) → queryOk Q ≡ true → (d h : List ℕ) → leng
 hashes-of Q ok d h e r =
     record {
       long = ap length written ∙ length-over (hashesOf Q) d (omega (arith, hashes-long, room)) ∙ e;
-      each = λ j l. ap (λ (z : List ℕ). getD z j 0) written ∙ over-front (hashesOf Q) d j (omega (arith, hashes-long)) ∙ (unfold hashesOf in getD-tabulate (wordsOf Q) (hashAt Q) j 0 l);
+      each = λ j l. ap (λ (z : List ℕ). getD z j 0) written ∙ over-front (hashesOf Q) d j (omega (arith, hashes-long)) ∙ (unfold hashesOf in getD-tabulate (wordCount Q) (hashAt Q) j 0 l);
     }
   where
-    room : wordsOf Q ≤ length d
+    room : wordCount Q ≤ length d
     room = omega (arith, e, query-kept Q ok .few)
 
     written : h ≡ over (hashesOf Q) d
     written = r ∙ sym (with-room Q d ok room)
 
-    hashes-long : length (hashesOf Q) ≡ wordsOf Q
-    hashes-long = unfold hashesOf in length-tabulate (wordsOf Q) (hashAt Q)
+    hashes-long : length (hashesOf Q) ≡ wordCount Q
+    hashes-long = unfold hashesOf in length-tabulate (wordCount Q) (hashAt Q)
 
 -- ---- is_asked
 pub asked-apart : (a b : ℕ) (x : Bool) → (a ≡ b → ⊥) → false ≡ (eqb a b && x)

@@ -19,7 +19,7 @@ use Rattle.seq.proofs.Laws.Below.{every-at, every-of}
 use Rattle.seq.proofs.Laws.Lists.{everyOf-at}
 use Rattle.index.specs.Index.{start, wordList}
 use Rattle.words.specs.Runs.{wordByte, lower}
-use Rattle.query.specs.Query.{Query, asked, wordsOf, rises, queryOk}
+use Rattle.query.specs.Query.{Query, asked, wordCount, rises, queryOk}
 use Rattle.query.specs.Plain.{IsQuery}
 
 -- ---- a query that is taken
@@ -31,30 +31,30 @@ letters-of (x ∷ l) h = and-both (wordByte x) (everyOf wordByte l) (h 0 (omega 
 pub query-kept : (Q : Query) → queryOk Q ≡ true → IsQuery Q
 query-kept Q ok =
     record {
-      some = leb-true 1 (wordsOf Q) (and-left _ _ counts);
-      few = leb-true (wordsOf Q) 8 (and-right (leb 1 (wordsOf Q)) _ counts);
-      notEmpty = λ j l. ltb-true (start (Q .ends) j) (getD (Q .ends) j 0) (every-at (wordsOf Q) (λ j. ltb (start (Q .ends) j) (getD (Q .ends) j 0)) climbs j l);
+      some = leb-true 1 (wordCount Q) (and-left _ _ counts);
+      few = leb-true (wordCount Q) 8 (and-right (leb 1 (wordCount Q)) _ counts);
+      notEmpty = λ j l. ltb-true (start (Q .ends) j) (getD (Q .ends) j 0) (every-at (wordCount Q) (λ j. ltb (start (Q .ends) j) (getD (Q .ends) j 0)) climbs j l);
       last = eqb-true _ _ (and-left _ _ ends);
-      letters = everyOf-at wordByte (Q .words) 0 (and-right (eqb (getD (Q .ends) (pred (wordsOf Q)) 0) (length (Q .words))) _ ends);
+      letters = everyOf-at wordByte (Q .words) 0 (and-right (eqb (getD (Q .ends) (pred (wordCount Q)) 0) (length (Q .words))) _ ends);
     }
   where
-    counts : (leb 1 (wordsOf Q) && leb (wordsOf Q) 8) ≡ true
+    counts : (leb 1 (wordCount Q) && leb (wordCount Q) 8) ≡ true
     counts = unfold queryOk in and-left _ _ ok
 
-    rest : (rises (Q .ends) && (eqb (getD (Q .ends) (pred (wordsOf Q)) 0) (length (Q .words)) && everyOf wordByte (Q .words))) ≡ true
-    rest = unfold queryOk in and-right (leb 1 (wordsOf Q) && leb (wordsOf Q) 8) _ ok
+    rest : (rises (Q .ends) && (eqb (getD (Q .ends) (pred (wordCount Q)) 0) (length (Q .words)) && everyOf wordByte (Q .words))) ≡ true
+    rest = unfold queryOk in and-right (leb 1 (wordCount Q) && leb (wordCount Q) 8) _ ok
 
-    climbs : everyBelow (wordsOf Q) (λ j. ltb (start (Q .ends) j) (getD (Q .ends) j 0)) ≡ true
+    climbs : everyBelow (wordCount Q) (λ j. ltb (start (Q .ends) j) (getD (Q .ends) j 0)) ≡ true
     climbs = unfold rises in and-left (rises (Q .ends)) _ rest
 
-    ends : (eqb (getD (Q .ends) (pred (wordsOf Q)) 0) (length (Q .words)) && everyOf wordByte (Q .words)) ≡ true
+    ends : (eqb (getD (Q .ends) (pred (wordCount Q)) 0) (length (Q .words)) && everyOf wordByte (Q .words)) ≡ true
     ends = and-right (rises (Q .ends)) _ rest
 
 query-of : (Q : Query) → IsQuery Q → queryOk Q ≡ true
 unfolding queryOk rises
 query-of Q q =
-    and-both _ _ (and-both _ _ (le-leb 1 (wordsOf Q) (q .some)) (le-leb (wordsOf Q) 8 (q .few)))
-    (and-both _ _ (every-of (wordsOf Q) _ (λ j l. lt-ltb (start (Q .ends) j) (getD (Q .ends) j 0) (q .notEmpty j l)))
+    and-both _ _ (and-both _ _ (le-leb 1 (wordCount Q) (q .some)) (le-leb (wordCount Q) 8 (q .few)))
+    (and-both _ _ (every-of (wordCount Q) _ (λ j l. lt-ltb (start (Q .ends) j) (getD (Q .ends) j 0) (q .notEmpty j l)))
     (and-both _ _ (eq-eqb _ _ (q .last)) (letters-of (Q .words) (q .letters))))
 
 pub query-plain : (Q : Query) → (queryOk Q ≡ true) ↔ IsQuery Q
@@ -66,21 +66,21 @@ unfolding start
 start-suc ends j = refl
 
 module _ (Q : Query) (q : IsQuery Q) where
-  up-to : (i d : ℕ) → i + d < wordsOf Q → getD (Q .ends) i 0 ≤ getD (Q .ends) (i + d) 0
+  up-to : (i d : ℕ) → i + d < wordCount Q → getD (Q .ends) i 0 ≤ getD (Q .ends) (i + d) 0
   up-to i zero l = let same : i + 0 ≡ i = omega arith in omega (arith, ap (λ (z : ℕ). getD (Q .ends) z 0) same)
   up-to i (suc d) l =
       let next : i + suc d ≡ suc (i + d) = omega arith in
       omega (arith, up-to i d (omega arith), q .notEmpty (suc (i + d)) (omega arith), start-suc (Q .ends) (i + d), ap (λ (z : ℕ). getD (Q .ends) z 0) next)
 
-  pub end-within : (j : ℕ) → j < wordsOf Q → getD (Q .ends) j 0 ≤ length (Q .words)
-  end-within j l = omega (arith, up-to j (wordsOf Q - suc j) (omega arith), q .last, ap (λ (z : ℕ). getD (Q .ends) z 0) (top (wordsOf Q) l))
+  pub end-within : (j : ℕ) → j < wordCount Q → getD (Q .ends) j 0 ≤ length (Q .words)
+  end-within j l = omega (arith, up-to j (wordCount Q - suc j) (omega arith), q .last, ap (λ (z : ℕ). getD (Q .ends) z 0) (top (wordCount Q) l))
     where
       top : (k : ℕ) → j < k → j + (k - suc j) ≡ pred k
       top zero h = absurd (not-suc-le-zero h)
       top (suc k) h = omega arith
 
 -- Word j's bytes as code takes them.
-module _ (Q : Query) (q : IsQuery Q) (j f t : ℕ) (l : j < wordsOf Q) (b : f ≡ start (Q .ends) j) (e : t ≡ getD (Q .ends) j 0) where
+module _ (Q : Query) (q : IsQuery Q) (j f t : ℕ) (l : j < wordCount Q) (b : f ≡ start (Q .ends) j) (e : t ≡ getD (Q .ends) j 0) where
   pub part-rises : f ≤ t
   part-rises = omega (arith, q .notEmpty j l)
 

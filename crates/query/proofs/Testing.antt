@@ -16,7 +16,7 @@ use Rattle.seq.proofs.Laws.Bools.{and-both, and-false-left, and-false-right}
 use Rattle.seq.proofs.Laws.Below.{every-zero, every-suc, every-fails}
 use Rattle.index.specs.Index.{start}
 use Rattle.words.specs.Runs.{wordByte}
-use Rattle.query.specs.Query.{Query, wordsOf, rises, queryOk}
+use Rattle.query.specs.Query.{Query, wordCount, rises, queryOk}
 use Rattle.query.proofs.Kept.{start-suc}
 
 -- ---- ends_rise
@@ -49,33 +49,33 @@ module _ (ends : List ℕ) (f j : ℕ) (s : Rising ends f j) where
 
 -- ---- is_query
 module _ (Q : Query) where
-  pub size-none : wordsOf Q ≡ 0 → false ≡ queryOk Q
+  pub size-none : wordCount Q ≡ 0 → false ≡ queryOk Q
   unfolding queryOk
-  size-none e = sym (and-false-left _ _ (and-false-left _ _ (lt-leb 1 (wordsOf Q) (omega arith))))
+  size-none e = sym (and-false-left _ _ (and-false-left _ _ (lt-leb 1 (wordCount Q) (omega arith))))
 
-  pub size-many : 8 < wordsOf Q → false ≡ queryOk Q
+  pub size-many : 8 < wordCount Q → false ≡ queryOk Q
   unfolding queryOk
-  size-many h = sym (and-false-left _ _ (and-false-right (leb 1 (wordsOf Q)) _ (lt-leb (wordsOf Q) 8 h)))
+  size-many h = sym (and-false-left _ _ (and-false-right (leb 1 (wordCount Q)) _ (lt-leb (wordCount Q) 8 h)))
 
   pub size-falls : rises (Q .ends) ≡ false → false ≡ queryOk Q
   unfolding queryOk
-  size-falls e = sym (and-false-right (leb 1 (wordsOf Q) && leb (wordsOf Q) 8) _ (and-false-left _ _ e))
+  size-falls e = sym (and-false-right (leb 1 (wordCount Q) && leb (wordCount Q) 8) _ (and-false-left _ _ e))
 
-  pub size-last : (getD (Q .ends) (wordsOf Q - 1) 0 ≡ length (Q .words) → ⊥) → (wordsOf Q ≡ 0 → ⊥) → false ≡ queryOk Q
+  pub size-last : (getD (Q .ends) (wordCount Q - 1) 0 ≡ length (Q .words) → ⊥) → (wordCount Q ≡ 0 → ⊥) → false ≡ queryOk Q
   unfolding queryOk
   size-last n m =
-      sym (and-false-right (leb 1 (wordsOf Q) && leb (wordsOf Q) 8) _ (and-false-right (rises (Q .ends)) _
-      (and-false-left _ _ (ne-eqb _ _ (λ e. n (ap (λ (z : ℕ). getD (Q .ends) z 0) (less (wordsOf Q) m) ∙ e))))))
+      sym (and-false-right (leb 1 (wordCount Q) && leb (wordCount Q) 8) _ (and-false-right (rises (Q .ends)) _
+      (and-false-left _ _ (ne-eqb _ _ (λ e. n (ap (λ (z : ℕ). getD (Q .ends) z 0) (less (wordCount Q) m) ∙ e))))))
     where
       less : (k : ℕ) → (k ≡ 0 → ⊥) → k - 1 ≡ pred k
       less zero h = absurd (h refl)
       less (suc k) h = omega arith
 
-  pub size-letters : (wordsOf Q ≡ 0 → ⊥) → wordsOf Q ≤ 8 → rises (Q .ends) ≡ true → getD (Q .ends) (wordsOf Q - 1) 0 ≡ length (Q .words) → everyOf wordByte (Q .words) ≡ queryOk Q
+  pub size-letters : (wordCount Q ≡ 0 → ⊥) → wordCount Q ≤ 8 → rises (Q .ends) ≡ true → getD (Q .ends) (wordCount Q - 1) 0 ≡ length (Q .words) → everyOf wordByte (Q .words) ≡ queryOk Q
   unfolding queryOk
   size-letters m h r e =
-      sym (ap₂ _&&_ (and-both _ _ (le-leb 1 (wordsOf Q) (omega (arith, m))) (le-leb (wordsOf Q) 8 h))
-      (ap₂ _&&_ r (ap (λ z. z && everyOf wordByte (Q .words)) (eq-eqb _ _ (ap (λ (z : ℕ). getD (Q .ends) z 0) (sym (less (wordsOf Q) m)) ∙ e)))))
+      sym (ap₂ _&&_ (and-both _ _ (le-leb 1 (wordCount Q) (omega (arith, m))) (le-leb (wordCount Q) 8 h))
+      (ap₂ _&&_ r (ap (λ z. z && everyOf wordByte (Q .words)) (eq-eqb _ _ (ap (λ (z : ℕ). getD (Q .ends) z 0) (sym (less (wordCount Q) m)) ∙ e)))))
     where
       less : (k : ℕ) → (k ≡ 0 → ⊥) → k - 1 ≡ pred k
       less zero h = absurd (h refl)

@@ -6,8 +6,8 @@ use mathlib.Core.Path.{_≡_}
 use mathlib.Core.List.{List}
 use mathlib.Core.Bool.{true}
 use lib.ListN.{length}
-use Rattle.query.specs.Query.{Query, wordsOf, queryOk}
+use Rattle.query.specs.Query.{Query, wordCount, queryOk}
 
 pub record HashPre (Q : Query) (h : List ℕ) : Type 0 where
   pub ok : queryOk Q ≡ true
-  pub room : wordsOf Q ≤ length h
+  pub room : wordCount Q ≤ length h

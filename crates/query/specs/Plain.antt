@@ -7,11 +7,11 @@ use mathlib.Core.Bool.{true}
 use lib.ListN.{length, getD}
 use Rattle.index.specs.Index.{start}
 use Rattle.words.specs.Runs.{wordByte}
-use Rattle.query.specs.Query.{Query, wordsOf}
+use Rattle.query.specs.Query.{Query, wordCount}
 
 pub record IsQuery (Q : Query) : Type 0 where
-  pub some : 1 ≤ wordsOf Q
-  pub few : wordsOf Q ≤ 8
-  pub notEmpty : (j : ℕ) → j < wordsOf Q → start (Q .ends) j < getD (Q .ends) j 0
-  pub last : getD (Q .ends) (pred (wordsOf Q)) 0 ≡ length (Q .words)
+  pub some : 1 ≤ wordCount Q
+  pub few : wordCount Q ≤ 8
+  pub notEmpty : (j : ℕ) → j < wordCount Q → start (Q .ends) j < getD (Q .ends) j 0
+  pub last : getD (Q .ends) (pred (wordCount Q)) 0 ≡ length (Q .words)
   pub letters : (i : ℕ) → i < length (Q .words) → wordByte (getD (Q .words) i 0) ≡ true

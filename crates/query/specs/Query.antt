@@ -1,6 +1,6 @@
 -- The words of a query, lent as bytes and ends (02, Q-5).
 --   Query          == what is lent: all words' bytes, one after the other, and each word's end
---   wordsOf Q      == how many words there are
+--   wordCount Q    == how many words there are
 --   asked Q j      == word j of the query in lower case: the bytes from the previous end up to its own
 --   rises ends     == each end is above the one before, and the first above 0: no word is empty
 --   queryOk Q      == there are 1 to 8 words, the ends rise to the length of the bytes, and every byte is a letter or a digit
@@ -28,8 +28,8 @@ pub record Query : Type 0 where
 abbrev pub query : List ℕ → List ℕ → Query
 query w e = record { words = w; ends = e }
 
-abbrev pub wordsOf : Query → ℕ
-wordsOf Q = length (Q .ends)
+abbrev pub wordCount : Query → ℕ
+wordCount Q = length (Q .ends)
 
 unfoldable pub asked : Query → ℕ → Word
 asked Q j = map lower (wordList (Q .ends) (Q .words) j)
@@ -39,16 +39,16 @@ rises ends = everyBelow (length ends) λ j. ltb (start ends j) (getD ends j 0)
 
 unfoldable pub queryOk : Query → Bool
 queryOk Q =
-    (leb 1 (wordsOf Q) && leb (wordsOf Q) 8) &&
-    (rises (Q .ends) && (eqb (getD (Q .ends) (pred (wordsOf Q)) 0) (length (Q .words)) && everyOf wordByte (Q .words)))
+    (leb 1 (wordCount Q) && leb (wordCount Q) 8) &&
+    (rises (Q .ends) && (eqb (getD (Q .ends) (pred (wordCount Q)) 0) (length (Q .words)) && everyOf wordByte (Q .words)))
 
 -- ---- hashes
 unfoldable pub hashesOf : Query → List ℕ
-hashesOf Q = tabulate (wordsOf Q) λ j. hashOf (asked Q j)
+hashesOf Q = tabulate (wordCount Q) λ j. hashOf (asked Q j)
 
 unfoldable pub hashesAfter : Query → List ℕ → List ℕ
-hashesAfter Q h = cond (queryOk Q && leb (wordsOf Q) (length h)) (over (hashesOf Q) h) h
+hashesAfter Q h = cond (queryOk Q && leb (wordCount Q) (length h)) (over (hashesOf Q) h) h
 
 pub record Hashes (Q : Query) (h : List ℕ) : Type 0 where
   pub long : length h ≡ 8
-  pub each : (j : ℕ) → j < wordsOf Q → getD h j 0 ≡ hashOf (asked Q j)
+  pub each : (j : ℕ) → j < wordCount Q → getD h j 0 ≡ hashOf (asked Q j)
