@@ -26,11 +26,8 @@ fn write(
     lists::sum_rows(parents, word_ends.len(), &mut *counts);
 }
 
-// Builds the index of a text for the words of a query, which are lent as bytes and ends. The total is the number of nodes, n; k is the number of words.
-// SIZE for a text of more than 16,777,216 bytes, for 0 or more than 8 words, for ends that do not rise to the length of the bytes, and for a byte of a word that is no letter or
-// digit; then whichever comes first: MARKUP at the first byte at which no text of the profile continues, or TREE at the first node of level 65 or numbered 65,536. These touch nothing.
-// Last ROOM, with total 0, where the distinct words of the text outnumber the slots, parents, tags, firsts or lasts is shorter than n, work than 3 * n, ends than k, occurrences than all lists
-// together, or counts than k * n: then every slot is 0, and all else as it was.
+// Builds the index of a text for the words of a query, which are lent as bytes and ends. The reply, with n as its total, is that of `plan`, which says when each refusal is given.
+// Refused, every slot is 0 under ROOM, and all else is as it was.
 // Accepted, the slots are the table, the fronts of the others are written, the first 3 * n entries of work are 0, and later entries stay.
 pub fn build(
     text: &[u8],

@@ -1,4 +1,5 @@
 -- What a call that builds an index replies, and what it leaves in the table (02, Q-5).
+--   treeFits n z         == a tree of n nodes fits, and the reader's work
 --   enough T Q m z       == all that is written fits m slots and slices of the sizes z: the table, the tree as for the reader, the ends, the lists and the counts
 --   planReply T Q m z    == the reply: SIZE, then what the judge of the text says, then ROOM with total 0, or acceptance with the nodes
 --   slotsAfter T w r     == the slots w after the reply r: the table where it is accepted, zero under ROOM, else as lent
