@@ -1,12 +1,12 @@
 /* Prints how long a whole sq_build takes, as a ratio to the same algorithm in plain C, in one process, on the texts of reads.c. The query is the first eight distinct words of the text,
  * or the eighth alone; there are twice as many slots as distinct words. Each figure is the quickest of several turns, in which the two are called one after the other. Then how a
  * build grows with its text, and what a nearly full table costs. */
+#include "clock.h"
 #include "plain.h"
 #include "texts.h"
 
 #include <stdio.h>
 #include <stdlib.h>
-#include <time.h>
 
 enum { MOST_NODES = 65536, MOST_WORDS = 8, MOST_SLOTS = 4 * MOST_NODES, LETTERS = 8192, MB = 1048576, LEAST_TURNS = 7, LEAST_US = 300000, SIZES = 3 };
 
@@ -41,13 +41,6 @@ static sq_reply proved(size_t length, size_t slots) {
 
 static sq_reply plain(size_t length, size_t slots) {
     return plain_build(QUERY, LENT(plain_index));
-}
-
-/* The processor's time, to which a busy machine adds little. */
-static double now(void) {
-    struct timespec t;
-    clock_gettime(CLOCK_PROCESS_CPUTIME_ID, &t);
-    return (double)t.tv_sec * 1e6 + (double)t.tv_nsec * 1e-3;
 }
 
 static void stop(const char *why) {

@@ -1,11 +1,11 @@
 /* Prints how long the product of FNV-1a takes, as ratios to a multiplication: by unrolled wrapping additions, as crates/fnv makes it, and by a loop that doubles and adds. All in plain C,
  * in one process, in the same loop over the bytes of a text: the library has its hash only inside sq_build. Each figure is the quickest of several turns. The kit's clang finds the
  * multiplication in the unrolled additions, so that these cost nothing more; in a loop of doublings it would too, if it knew the factor. */
+#include "clock.h"
 #include "texts.h"
 
 #include <stdio.h>
 #include <stdlib.h>
-#include <time.h>
 
 enum { MB = 1048576, NODES = 4096, LEAST_TURNS = 15, WAYS = 3 };
 
@@ -55,12 +55,6 @@ HASH_BY(doubled)
 
 static uint32_t (*const ways[WAYS])(size_t) = {hash_multiplied, hash_added, hash_doubled};
 static const char *const names[WAYS] = {"a multiplication", "unrolled additions", "a loop of doublings"};
-
-static double now(void) {
-    struct timespec t;
-    clock_gettime(CLOCK_PROCESS_CPUTIME_ID, &t);
-    return (double)t.tv_sec * 1e6 + (double)t.tv_nsec * 1e-3;
-}
 
 int main(void) {
     size_t length = make_text(SCHEDULE, NODES, MB);

@@ -1,11 +1,11 @@
 /* Prints how long a whole sq_read takes, as a ratio to the same algorithm in plain C, in one process; with EXPAT, how many times as long expat takes as sq_read, or as plain C where
  * PLAIN_ALONE says that there is no library to call. Each figure is the quickest of several turns, in which the two are called one after the other. Then how a read grows with its text. */
+#include "clock.h"
 #include "plain.h"
 #include "texts.h"
 
 #include <stdio.h>
 #include <stdlib.h>
-#include <time.h>
 
 enum { MOST_NODES = 65536, MB = 1048576, LEAST_TURNS = 7, LEAST_US = 300000, SIZES = 3 };
 
@@ -29,13 +29,6 @@ typedef struct lent_tree {
 static lent_tree base_tree;
 
 #define LENT(t) (t).parents, MOST_NODES, (t).tags, MOST_NODES, (t).firsts, MOST_NODES, (t).lasts, MOST_NODES, (t).work, 3 * MOST_NODES
-
-/* The processor's time, to which a busy machine adds little. */
-static double now(void) {
-    struct timespec t;
-    clock_gettime(CLOCK_PROCESS_CPUTIME_ID, &t);
-    return (double)t.tv_sec * 1e6 + (double)t.tv_nsec * 1e-3;
-}
 
 static void stop(const char *why) {
     fprintf(stderr, "reads: %s\n", why);

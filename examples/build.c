@@ -2,15 +2,9 @@
  * each answer of ELCA, the places of its first and last byte and the first line of that part of the text. Or it says why the text or the words are refused. The words Chop and
  * EET of examples/schedule.xml give examples/build.out.
  * Status 0: the answers or the refusal are printed; 1: something could not be read or written; 2: wrong usage. */
-#include <sonquilate.h>
+#include "text.h"
 
-#include <stdio.h>
-#include <stdlib.h>
-
-enum { MOST_BYTES = 16777216, MOST_NODES = 65536, MOST_WORDS = 8, LINE = 100 };
-
-/* One byte more than a text may have, so that a longer one is refused. */
-static uint8_t text[MOST_BYTES + 1];
+enum { MOST_WORDS = 8, LINE = 100 };
 
 /* As much as any text and any query need, so that there is always room. Each word of a text has a byte behind it that is of no word: so a slot for each byte is at least two for each word,
  * which keeps a build quick. Only as many slots as the text has bytes are lent. */
@@ -30,21 +24,6 @@ typedef struct query {
     uint32_t *ends;
     size_t bytes, count;
 } query;
-
-static void stop(const char *what) {
-    perror(what);
-    exit(1);
-}
-
-/* How many bytes there are; status 1 where they cannot be read. */
-static size_t take(const char *path) {
-    FILE *from = fopen(path, "rb");
-    size_t length = from == NULL ? 0 : fread(text, 1, MOST_BYTES + 1, from);
-    if (from == NULL || ferror(from))
-        stop(path);
-    fclose(from);
-    return length;
-}
 
 static size_t length_of(const char *word) {
     size_t length = 0;
@@ -81,13 +60,6 @@ static sq_reply search(size_t n, size_t k) {
 }
 
 /* ---- what is printed */
-static void print_byte(uint8_t byte) {
-    if (byte < ' ' || byte > '~')
-        printf("\\x%02X", byte);
-    else
-        printf("%c", byte);
-}
-
 /* The words in lower case, as they are compared. */
 static void print_words(query q) {
     size_t at = 0, from = 0;
@@ -127,23 +99,6 @@ static void print_answers(size_t many) {
         printf("no part of the text has all the words\n");
 }
 
-/* Bytes are counted from 0, lines and the bytes in a line from 1. */
-static void print_markup(size_t place, size_t length) {
-    size_t line = 1, column = 1;
-    for (size_t i = 0; i < place; i++) {
-        column = text[i] == '\n' ? 1 : column + 1;
-        line += text[i] == '\n';
-    }
-    printf("MARKUP at byte %lu, line %lu, column %lu: ", (unsigned long)place, (unsigned long)line, (unsigned long)column);
-    if (place == length) {
-        printf("the text stops short\n");
-    } else {
-        printf("\"");
-        print_byte(text[place]);
-        printf("\" cannot stand there\n");
-    }
-}
-
 static void print_size(size_t length, query q) {
     if (length > MOST_BYTES)
         printf("SIZE: the text has more than 16,777,216 bytes\n");
@@ -156,16 +111,10 @@ static void print_size(size_t length, query q) {
 static void print_refusal(sq_reply r, size_t length, query q) {
     if (r.refusal == SQ_SIZE)
         print_size(length, q);
-    else if (r.refusal == SQ_MARKUP)
-        print_markup(r.place, length);
-    else if (r.refusal == SQ_TREE && r.place < MOST_NODES)
-        printf("TREE at node %lu: it is of level 65\n", (unsigned long)r.place);
-    else if (r.refusal == SQ_TREE)
-        printf("TREE at node 65536: there are more than 65,536 nodes\n");
     else if (r.refusal == SQ_ROOM)
         printf("ROOM: a buffer is too short for this text and these words\n");
     else
-        printf("refusal %lu, place %lu, total %lu\n", (unsigned long)r.refusal, (unsigned long)r.place, (unsigned long)r.total);
+        print_refused_text(r, length);
 }
 
 /* An index that was built is never refused: what the search replies is tested all the same. */
@@ -191,10 +140,5 @@ int main(int words, char **word) {
     print(length, q);
     free(q.words);
     free(q.ends);
-    int lost = ferror(stdout);
-    if (fclose(stdout) != 0 || lost) {
-        perror("standard output");
-        return 1;
-    }
-    return 0;
+    return all_written();
 }

@@ -10,6 +10,7 @@ use lib.Dec.{eqb}
 use lib.ListN.{length, getD}
 use borrow.Author.Tests.{ltb-true}
 use Rattle.seq.specs.Lists.{everyOf, sameList}
+use Rattle.seq.proofs.Laws.Lists.{sameList-swap}
 use Rattle.seq.proofs.Laws.Bools.{and-left, and-right}
 use Rattle.profile.specs.Tags.{known}
 use Rattle.probing.proofs.Laws.Table.{blank-at}
@@ -22,7 +23,6 @@ use Rattle.inplace.specs.declared.Hashed.{Hashed}
 use Rattle.mentions.specs.declared.Seen.{Seen}
 use Rattle.query.specs.Query.{Query, asked, wordCount}
 use Rattle.build.specs.Inner.{Flags, FlagWordsPre, FlagsAll}
-use Rattle.plan.proofs.Hits.{same-swap}
 use Rattle.plan.proofs.Texts.{text-kept}
 use Rattle.plan.proofs.Passing.{left, Nexts}
 
@@ -70,7 +70,7 @@ module _ (T : List ℕ) (Q : Query) (n : ℕ) (c : List ℕ) (i : ℕ) (g b : Bo
           cond (known (wordsOn T behind w) (asked Q j)) 1 (getD c′ (j * n + w) 0) ≡ cond (known (wordsOn T (mention at (d .place) ∷ behind) w) (asked Q j)) 1 (getD c (j * n + w) 0)
       unfolding wordsOn known
       one-flag j w a l =
-          ap (λ (y : ℕ). cond (known (wordsOn T behind w) (asked Q j)) 1 y) (f .each j w a l ∙ ap (λ z. cond (eqb at w && z) 1 (getD c (j * n + w) 0)) (same-swap (asked Q j) (wordAt T (d .place)))) ∙
+          ap (λ (y : ℕ). cond (known (wordsOn T behind w) (asked Q j)) 1 y) (f .each j w a l ∙ ap (λ z. cond (eqb at w && z) 1 (getD c (j * n + w) 0)) (sameList-swap (asked Q j) (wordAt T (d .place)))) ∙
           by (eqb at w)
         where
           both : (q r : Bool) (y : ℕ) → cond r 1 (cond q 1 y) ≡ cond (q || r) 1 y

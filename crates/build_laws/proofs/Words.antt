@@ -13,7 +13,7 @@ use lib.Dec.{eqb}
 use borrow.Author.Tests.{eq-eqb, eqb-true}
 use Rattle.seq.specs.Lists.{someOf, sameList, firstOf}
 use Rattle.seq.proofs.Laws.Bools.{or-cases, or-left, or-right, bool-false}
-use Rattle.seq.proofs.Laws.Lists.{sameList-self}
+use Rattle.seq.proofs.Laws.Lists.{sameList-self, sameList-swap}
 use Rattle.profile.specs.Grammar.{Document, text}
 use Rattle.profile.specs.Tree.{placeIn}
 use Rattle.profile.specs.Tags.{known}
@@ -28,7 +28,6 @@ use Rattle.words.proofs.Forgets.{document-forgets}
 use Rattle.words.proofs.Stands.{document-found}
 use Rattle.words.proofs.Scan.{mentions-read}
 use Rattle.plan.specs.Lists.{placesOf}
-use Rattle.plan.proofs.Hits.{same-swap}
 use Rattle.build_laws.specs.Words.{inText, Somewhere, newPlaces, inOne, wordsIn, distinct}
 
 -- ---- what is read
@@ -62,7 +61,7 @@ module _ (named : ℕ → List ℕ) where
   names-known : (ks : List ℕ) (q : Word) → names named ks q ≡ known (map named ks) q
   unfolding names someOf known
   names-known [] q = refl
-  names-known (k ∷ ks) q = ap₂ _||_ (same-swap q (named k)) (names-known ks q)
+  names-known (k ∷ ks) q = ap₂ _||_ (sameList-swap q (named k)) (names-known ks q)
 
   firsts-distinct : (b ks : List ℕ) → map named (firsts named b ks) ≡ distinct (map named b) (map named ks)
   unfolding firsts distinct
@@ -123,7 +122,7 @@ names-here T (m ∷ M) q e = ⊎-elim here (λ h. later (names-here T M q h)) (o
     here h =
         record {
           node = m .node;
-          stands = ap (λ z. known (cond z (wordAt T (m .place) ∷ wordsOn T M (m .node)) (wordsOn T M (m .node))) q) (eq-eqb (m .node) (m .node) refl) ∙ or-left _ _ (same-swap (wordAt T (m .place)) q ∙ h);
+          stands = ap (λ z. known (cond z (wordAt T (m .place) ∷ wordsOn T M (m .node)) (wordsOn T M (m .node))) q) (eq-eqb (m .node) (m .node) refl) ∙ or-left _ _ (sameList-swap (wordAt T (m .place)) q ∙ h);
         }
 
     later : Somewhere (λ v. known (wordsOn T M v) q) → Somewhere (λ v. known (wordsOn T (m ∷ M) v) q)
@@ -141,7 +140,7 @@ here-names T (m ∷ M) q v e = by (eqb (m .node) v) (here-names T M q v) e
     by : (z : Bool) → (known (wordsOn T M v) q ≡ true → names (wordAt T) (placesOf M) q ≡ true) →
         known (cond z (wordAt T (m .place) ∷ wordsOn T M v) (wordsOn T M v)) q ≡ true → names (wordAt T) (placesOf (m ∷ M)) q ≡ true
     by true f h =
-        ⊎-elim (λ x. or-left _ _ (same-swap q (wordAt T (m .place)) ∙ x)) (λ x. or-right (sameList q (wordAt T (m .place))) _ (f x))
+        ⊎-elim (λ x. or-left _ _ (sameList-swap q (wordAt T (m .place)) ∙ x)) (λ x. or-right (sameList q (wordAt T (m .place))) _ (f x))
         (or-cases (sameList (wordAt T (m .place)) q) (known (wordsOn T M v) q) h)
     by false f h = or-right (sameList q (wordAt T (m .place))) _ (f h)
 

@@ -13,8 +13,8 @@ use lib.Dec.{eqb, ltb, leb}
 use borrow.Author.Tests.{eq-eqb, ne-eqb, eqb-true, eqb-false, ltb-true, le-leb, leb-true, not-true}
 use Rattle.seq.specs.Below.{listed}
 use Rattle.seq.specs.Lists.{everyOf, someOf, sameList, EachBelow}
-use Rattle.seq.proofs.Laws.Bools.{bool-cases, bool-ext, and-left, and-right, and-both, and-false-left, or-left}
-use Rattle.seq.proofs.Laws.Lists.{sameList-is, sameList-self}
+use Rattle.seq.proofs.Laws.Bools.{bool-cases, and-left, and-right, and-both, and-false-left, or-left}
+use Rattle.seq.proofs.Laws.Lists.{sameList-swap}
 use Rattle.seq.proofs.Laws.Gather.{gather-ext}
 use Rattle.seq.proofs.Laws.Members.{Rising, listed-of-rising}
 use Rattle.profile.specs.Tags.{known}
@@ -24,13 +24,6 @@ use Rattle.words.specs.Reading.{wordAt}
 use Rattle.words.specs.Stands.{wordsOn}
 use Rattle.words.proofs.Mentions.{below, rising}
 use Rattle.plan.specs.Inner.{isNew, hits}
-
--- Two words are the same in either order.
-pub same-swap : (a b : Word) → sameList a b ≡ sameList b a
-same-swap a b =
-    bool-ext (sameList a b) (sameList b a)
-    (λ e. ap (λ z. sameList z a) (sym (sameList-is a b e)) ∙ sameList-self a)
-    (λ e. ap (λ z. sameList z b) (sym (sameList-is b a e)) ∙ sameList-self b)
 
 -- ---- rising entries
 climbs : ℕ → List ℕ → Bool
@@ -67,11 +60,11 @@ module _ (T : List ℕ) (q : Word) where
 
   new-word : (u : ℕ) (m : Mention) → isNew T (m .place) q (m .node) u ≡ true → sameList (wordAt T (m .place)) q ≡ true
   unfolding isNew
-  new-word u m e = same-swap (wordAt T (m .place)) q ∙ and-right (not (eqb u (suc (m .node)))) _ e
+  new-word u m e = sameList-swap (wordAt T (m .place)) q ∙ and-right (not (eqb u (suc (m .node)))) _ e
 
   old-word : (u : ℕ) (m : Mention) → isNew T (m .place) q (m .node) u ≡ false → eqb u (suc (m .node)) ≡ false → sameList (wordAt T (m .place)) q ≡ false
   unfolding isNew
-  old-word u m e n = same-swap (wordAt T (m .place)) q ∙ sym (ap (λ z. not z && sameList q (wordAt T (m .place))) n) ∙ e
+  old-word u m e n = sameList-swap (wordAt T (m .place)) q ∙ sym (ap (λ z. not z && sameList q (wordAt T (m .place))) n) ∙ e
 
   rising-first : (v : ℕ) (m : Mention) (M : List Mention) → rising v (m ∷ M) ≡ true → v ≤ m .node
   unfolding rising

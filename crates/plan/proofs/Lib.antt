@@ -1,4 +1,4 @@
-pub mod Hits
+mod Hits
 pub mod Texts
 mod Gathering
 pub mod Passing
