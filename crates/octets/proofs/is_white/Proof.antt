@@ -1,10 +1,10 @@
--- `bytes::is_white` meets its contract: four bytes are white space, and no other.
+-- `octets::is_white` meets its contract: four bytes are white space, and no other.
 use mathlib.Core.Path.{refl}
 use borrow.Author.Tests.{ne_eqb}
 use Rattle.profile.specs.Bytes.{white}
-use Rattle.bytes.proofs.Table.{at_byte}
-use Rattle.bytes.proofs.is_white.Statement.{statement}
-use Rattle.bytes.proofs.is_white.Tie as tie
+use Rattle.octets.proofs.Table.{at_byte}
+use Rattle.octets.proofs.is_white.Statement.{statement}
+use Rattle.octets.proofs.is_white.Tie as tie
 
 returns : tie.Need-returns
 unfolding white

@@ -1,12 +1,12 @@
--- `bytes::find_short` meets its contract: glue over Running.
+-- `octets::find_short` meets its contract: glue over Running.
 use Prim.Native.Nat.{◌-◌}
 use native.Mathlib.Omega.{arith}
 use lib.ListN.{length}
 use Rattle.profile.specs.Spans.{other}
-use Rattle.bytes.proofs.Laws.{other-same, other-not}
-use Rattle.bytes.proofs.Running.{Run, run-start, run_step, run-stop, run_end}
-use Rattle.bytes.proofs.find_short.Statement.{statement}
-use Rattle.bytes.proofs.find_short.Tie as tie
+use Rattle.octets.proofs.Laws.{other-same, other-not}
+use Rattle.octets.proofs.Running.{Run, run-start, run_step, run-stop, run_end}
+use Rattle.octets.proofs.find_short.Statement.{statement}
+use Rattle.octets.proofs.find_short.Tie as tie
 
 abbrev invariant-loop : tie.invariant-loop
 invariant-loop text at x place₀ place = Run (other x) text at place

@@ -1,13 +1,13 @@
--- `bytes::white` meets its contract: glue over Running.
+-- `octets::white` meets its contract: glue over Running.
 use Prim.Native.Nat.{◌-◌}
 use mathlib.Core.Path.{sym, ◌∙◌}
 use native.Mathlib.Omega.{arith}
 use lib.ListN.{length}
 use borrow.Author.Tests.{not-true, not-false}
 use Rattle.profile.specs.Bytes.{white}
-use Rattle.bytes.proofs.Running.{Run, run-start, run_step, run-stop, run_end}
-use Rattle.bytes.proofs.white.Statement.{statement}
-use Rattle.bytes.proofs.white.Tie as tie
+use Rattle.octets.proofs.Running.{Run, run-start, run_step, run-stop, run_end}
+use Rattle.octets.proofs.white.Statement.{statement}
+use Rattle.octets.proofs.white.Tie as tie
 
 abbrev invariant-loop : tie.invariant-loop
 invariant-loop text at i₀ i = Run white text at i

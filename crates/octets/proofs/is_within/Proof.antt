@@ -1,11 +1,11 @@
--- `bytes::is_within` meets its contract.
+-- `octets::is_within` meets its contract.
 use mathlib.Core.Path.{ap}
 use mathlib.Core.Bool.{not}
 use lib.Bits.{bit_and}
 use lib.Dec.{eqb}
 use Rattle.profile.specs.Classes.{within}
-use Rattle.bytes.proofs.is_within.Statement.{statement}
-use Rattle.bytes.proofs.is_within.Tie as tie
+use Rattle.octets.proofs.is_within.Statement.{statement}
+use Rattle.octets.proofs.is_within.Tie as tie
 
 class-of-requires : tie.Need-class-of-requires
 class-of-requires c κs = tt

@@ -1,13 +1,13 @@
--- `bytes::skip` meets its contract: glue over Running.
+-- `octets::skip` meets its contract: glue over Running.
 use Prim.Native.Nat.{◌-◌}
 use mathlib.Core.Path.{sym, ◌∙◌}
 use native.Mathlib.Omega.{arith}
 use lib.ListN.{length}
 use borrow.Author.Tests.{not-true, not-false}
 use Rattle.profile.specs.Classes.{within}
-use Rattle.bytes.proofs.Running.{Run, run-start, run_step, run-stop, run_end}
-use Rattle.bytes.proofs.skip.Statement.{statement}
-use Rattle.bytes.proofs.skip.Tie as tie
+use Rattle.octets.proofs.Running.{Run, run-start, run_step, run-stop, run_end}
+use Rattle.octets.proofs.skip.Statement.{statement}
+use Rattle.octets.proofs.skip.Tie as tie
 
 abbrev invariant-loop : tie.invariant-loop
 invariant-loop text at set i₀ i = Run (within set) text at i

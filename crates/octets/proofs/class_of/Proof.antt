@@ -1,10 +1,10 @@
--- `bytes::class_of` meets its contract: each arm has the class of its byte, and the last one that of 255.
+-- `octets::class_of` meets its contract: each arm has the class of its byte, and the last one that of 255.
 use mathlib.Core.Path.{refl}
 use native.Mathlib.Omega.{arith}
 use Rattle.profile.specs.Classes.{class, table}
-use Rattle.bytes.proofs.Table.{NoneBelow, none-past, at_byte}
-use Rattle.bytes.proofs.class_of.Statement.{statement}
-use Rattle.bytes.proofs.class_of.Tie as tie
+use Rattle.octets.proofs.Table.{NoneBelow, none-past, at_byte}
+use Rattle.octets.proofs.class_of.Statement.{statement}
+use Rattle.octets.proofs.class_of.Tie as tie
 
 returns-last : tie.Need-returns-256
 unfolding NoneBelow class table

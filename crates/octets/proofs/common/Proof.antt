@@ -1,12 +1,12 @@
--- `bytes::common` meets its contract: glue over Running.
+-- `octets::common` meets its contract: glue over Running.
 use Prim.Native.Nat.{◌-◌}
 use mathlib.Core.Path.{sym}
 use native.Mathlib.Omega.{arith}
 use lib.ListN.{length}
 use Rattle.profile.proofs.Laws.Spans.{common-none}
-use Rattle.bytes.proofs.Running.{Match, match_start, match_step, match_stop, match_short, match_end}
-use Rattle.bytes.proofs.common.Statement.{statement}
-use Rattle.bytes.proofs.common.Tie as tie
+use Rattle.octets.proofs.Running.{Match, match_start, match_step, match_stop, match_short, match_end}
+use Rattle.octets.proofs.common.Statement.{statement}
+use Rattle.octets.proofs.common.Tie as tie
 
 abbrev invariant-loop : tie.invariant-loop
 invariant-loop word text at left i₀ i = Match word text at i

@@ -1,12 +1,12 @@
--- `bytes::rise` meets its contract: glue over Running.
+-- `octets::rise` meets its contract: glue over Running.
 use Prim.Native.Nat.{◌-◌}
 use native.Mathlib.Omega.{arith}
 use lib.ListN.{length}
 use Rattle.profile.specs.Spans.{low}
-use Rattle.bytes.proofs.Laws.{low_in, low-past}
-use Rattle.bytes.proofs.Running.{Run, run-start, run_step, run-stop, run_end}
-use Rattle.bytes.proofs.rise.Statement.{statement}
-use Rattle.bytes.proofs.rise.Tie as tie
+use Rattle.octets.proofs.Laws.{low_in, low-past}
+use Rattle.octets.proofs.Running.{Run, run-start, run_step, run-stop, run_end}
+use Rattle.octets.proofs.rise.Statement.{statement}
+use Rattle.octets.proofs.rise.Tie as tie
 
 abbrev invariant-loop : tie.invariant-loop
 invariant-loop text at place₀ place = Run low text at place
