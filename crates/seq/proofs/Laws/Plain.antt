@@ -7,7 +7,7 @@
 --   stays-over         what is written over the front of a buffer leaves the rest
 --   stays_unique       a buffer is fixed by its front and by what stays
 -- Letters: n numbers, l list, m entries; i j k places; f test; o buffer as it was lent, o' o'' as it is.
-use Prim.Native.Nat.{ℕ, zero, suc, ◌-◌, ◌≤◌, ◌<◌}
+use Prim.Native.Nat.{ℕ, zero, suc, ◌≤◌, ◌<◌}
 use mathlib.Core.Path.{◌≡◌, sym, ap, ◌∙◌}
 use mathlib.Core.Logic.{⊎_elim}
 use mathlib.Core.List.{List}
