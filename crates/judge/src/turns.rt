@@ -197,7 +197,7 @@ fn close_turn(
     let from = starts[top];
     let size = sizes[top];
     let name = at + 2;
-    let same = bytes::common(&text[from..from + size], text, name);
+    let same = octets::common(&text[from..from + size], text, name);
     if same != size {
         return broken(name + same);
     }
@@ -245,7 +245,7 @@ pub(crate) fn bare_close(
     if text[end] != b'>' {
         return at;
     }
-    if bytes::common(&text[begun..begun + size], text, here) != size {
+    if octets::common(&text[begun..begun + size], text, here) != size {
         return at;
     }
     end + 1

@@ -1,5 +1,5 @@
 // One piece of markup at a place of a text: what it is, whether it is whole, and where it ends or breaks (`profile`, specs/Pieces).
-// Each piece is read by bytes::skip over its name, data or comment, by bytes::white over its white space, and by a few tests of single bytes between them.
+// Each piece is read by octets::skip over its name, data or comment, by octets::white over its white space, and by a few tests of single bytes between them.
 ghost use Rattle.std.specs.Prelude.{◌≡◌, ◌+◌, ◌<◌, false, length, drop};
 ghost use Rattle.profile.specs.Machine.{b0};
 ghost use Rattle.profile.specs.Pieces as pieces;
@@ -43,7 +43,7 @@ struct Reached {
 fn word_end(word: &[u8], text: &[u8], at: usize) -> Reached
     ensures { result ≡ reached_from at (word_stop word.now (drop at text.now)) }
 {
-    let n = bytes::common(word, text, at);
+    let n = octets::common(word, text, at);
     Reached {
         end: at + n,
         whole: n == word.len(),
@@ -88,7 +88,7 @@ fn data_end(text: &[u8], at: usize) -> Reached
 {
     let mut i = at;
     loop {
-        i = bytes::skip(text, i, bytes::PLAINS);
+        i = octets::skip(text, i, octets::PLAINS);
         if text.len() <= i {
             return Reached {
                 end: i,
@@ -121,7 +121,7 @@ fn data_end(text: &[u8], at: usize) -> Reached
             };
         }
         i += 1;
-        let j = bytes::skip(text, i, bytes::BRACKETS);
+        let j = octets::skip(text, i, octets::BRACKETS);
         if i < j {
             if j < text.len() {
                 if text[j] == b'>' {
@@ -175,7 +175,7 @@ fn body_end(text: &[u8], at: usize) -> Reached
 {
     let mut i = at;
     loop {
-        i = bytes::skip(text, i, bytes::COMMENTEDS);
+        i = octets::skip(text, i, octets::COMMENTEDS);
         if text.len() <= i {
             return Reached {
                 end: i,
@@ -207,7 +207,7 @@ fn comment_piece(text: &[u8], at: usize) -> Piece
     ensures { result ≡ piece_from at (comment_piece (drop (at + 2) text.now)) }
 {
     let middle = at + 2;
-    let n = bytes::common(b"--", text, middle);
+    let n = octets::common(b"--", text, middle);
     if n != 2 {
         return Piece {
             kind: COMMENT,
@@ -236,7 +236,7 @@ fn name_end(text: &[u8], at: usize) -> usize
     if text[at] < b':' {
         return at;
     }
-    bytes::skip(text, at, bytes::NAMECHARS)
+    octets::skip(text, at, octets::NAMECHARS)
 }
 
 // An end tag, of which the `</` stands at a place.
@@ -254,7 +254,7 @@ fn close_piece(text: &[u8], at: usize) -> Piece
             end: middle,
         };
     }
-    let i = bytes::white(text, middle);
+    let i = octets::white(text, middle);
     let r = greater_end(text, i);
     Piece {
         kind: CLOSE,
@@ -279,7 +279,7 @@ fn tag_piece(text: &[u8], at: usize) -> Piece
             end: middle,
         };
     }
-    let i = bytes::white(text, middle);
+    let i = octets::white(text, middle);
     if i < text.len() {
         if text[i] == b'>' {
             return Piece {
@@ -320,7 +320,7 @@ pub fn piece_at(text: &[u8], at: usize) -> Piece
         };
     }
     if text[at] != b'<' {
-        let middle = bytes::white(text, at);
+        let middle = octets::white(text, at);
         let r = rest_end(text, middle);
         return Piece {
             kind: DATA,

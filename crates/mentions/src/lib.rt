@@ -72,7 +72,7 @@ fn reach(text: &[u8], s: Pass) -> Pass
     Pass {
         at: end,
         tag: false,
-        solid: bytes::white(text, at) < end,
+        solid: octets::white(text, at) < end,
         node: s.node,
     }
 }
@@ -137,7 +137,7 @@ fn over(text: &[u8], s: Pass) -> Pass
             node: s.node + 1,
         };
     }
-    let end = bytes::find(text, at + 1, b';');
+    let end = octets::find(text, at + 1, b';');
     Pass {
         at: end + 1,
         tag: false,

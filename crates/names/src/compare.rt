@@ -45,7 +45,7 @@ fn name_byte(text: &[u8], place: usize) -> u8
 {
     if place < text.len() {
         let end = place + 1;
-        if bytes::skip(&text[place..end], 0, bytes::NAMECHARS) == 1 {
+        if octets::skip(&text[place..end], 0, octets::NAMECHARS) == 1 {
             return text[place];
         }
     }
@@ -58,7 +58,7 @@ fn in_common(text: &[u8], place: usize, size: usize, other: usize) -> usize
     ensures { result ≡ in_common text.now place other }
 {
     let end = place + size;
-    bytes::common(&text[place..end], text, other)
+    octets::common(&text[place..end], text, other)
 }
 
 // The first bit in which the name of `size` bytes at a place and the name at another place differ, or 268,435,456 where they are the same.

@@ -62,7 +62,7 @@ fn take_up(
         return count;
     }
     let place = seq::widen(firsts[v]) + 1;
-    let size = bytes::skip(text, place, bytes::NAMECHARS) - place;
+    let size = octets::skip(text, place, octets::NAMECHARS) - place;
     if size == 0 {
         tags[v] = 0;
         return count;

@@ -11,7 +11,7 @@ fn dashes(text: &[u8], at: usize) -> usize
 {
     let mut i = at;
     loop {
-        i = bytes::find(text, i, b'-');
+        i = octets::find(text, i, b'-');
         if text.len() <= i {
             return i;
         }
@@ -32,7 +32,7 @@ fn tag(text: &[u8], at: usize) -> markup::Piece
     ensures { result ≡ piece_from at (skim_tag (drop at text.now)) }
 {
     let next = at + 1;
-    let last = bytes::find(text, next, b'>');
+    let last = octets::find(text, next, b'>');
     let end = last + 1;
     if next < text.len() {
         if text[next] == b'/' {
@@ -73,8 +73,8 @@ pub fn skim_at(text: &[u8], at: usize) -> markup::Piece
         };
     }
     if text[at] != b'<' {
-        let middle = bytes::rise(text, at);
-        let end = bytes::find(text, middle, b'<');
+        let middle = octets::rise(text, at);
+        let end = octets::find(text, middle, b'<');
         return markup::Piece {
             kind: markup::DATA,
             whole: true,

@@ -3,7 +3,7 @@ use Prim.Native.Nat.{◌-◌}
 use mathlib.Core.Path.{sym, ◌∙◌}
 use native.Mathlib.Omega.{arith}
 use lib.ListN.{length}
-use Rattle.bytes.proofs.Running.{Run, run-start, run_step, run-stop, run_end}
+use Rattle.octets.proofs.Running.{Run, run-start, run_step, run-stop, run_end}
 use Rattle.inplace.proofs.Letters.{folded-some, folded-none}
 use Rattle.mentions.specs.Inner.{quiet}
 use Rattle.mentions.proofs.Steps.{stop-letter, stop-less, stop-third, stop-none}
