@@ -1,4 +1,6 @@
 // Full flags from counts: which nodes have every word under them (01, "Which nodes are listed").
+#![tactic(auto)]
+
 ghost use Rattle.std.specs.Prelude.{◌≡◌, length};
 ghost use Rattle.full.specs.Full.{full_by, full_flags};
 ghost use Rattle.full.specs.Inner.{FullPre};

@@ -1,6 +1,8 @@
 // The loops over the bytes of a text that an XML reader is made of: how far bytes of some classes go on, where a byte stands next, and how much of a
 // word stands at a place.
 // Each function takes slices of any length and any content, and a place past the end of the text has no bytes at it.
+#![tactic(auto)]
+
 ghost use Rattle.std.specs.Prelude.{◌≡◌, ◌+◌, ◌<◌, drop};
 ghost use Rattle.profile.specs.Classes.{class, within};
 ghost use Rattle.profile.specs.Bytes as bytes;
@@ -20,6 +22,7 @@ pub const BRACKETS: u32 = 8;
 // It is a `match` and no constant array: the compiler keeps the arms as one constant table in memory and reads it without a test, where a constant array is
 // built anew on the stack wherever it is named. `skip` alone asks for classes, so that the table stands in its loop and no call is made for a byte.
 #[rattlefmt::skip]
+#[tactic(auto, unfolding(profile::specs::Classes::class, profile::specs::Classes::table))]
 fn class_of(x: u8) -> u32
     ensures { result ≡ class x }
 {

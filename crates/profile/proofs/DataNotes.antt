@@ -2,10 +2,10 @@
 --   data_note    data inside an element, up to the next `<`
 --   space-note   white space outside the root
 -- Letters as in specs/Notes; f l c the first byte, the last and the first solid one of the data held; w the white space before it. Assumes nothing.
-use Prim.Native.Nat.{ℕ, zero, suc, ◌+◌, ◌-◌, ◌≤◌, ◌<◌}
+use Prim.Native.Nat.{ℕ, zero, suc, ◌+◌, ◌-◌, ◌≤◌}
 use mathlib.Core.Path.{◌≡◌, refl, sym, ap, ◌∙◌}
 use mathlib.Core.List.{List, [], ◌∷◌, ◌++◌}
-use mathlib.Core.Bool.{Bool, true, false, not, cond, false≢true}
+use mathlib.Core.Bool.{Bool, true, false, cond, false≢true}
 use mathlib.Core.Option.{none, some}
 use native.Mathlib.Nat.{not-suc-le-zero}
 use native.Mathlib.Omega.{arith}
@@ -20,7 +20,6 @@ use Rattle.profile.specs.Machine.{Place, inside, Brackets, b0, State, between, a
 use Rattle.profile.specs.Tree.{Held, nothing, held, datum}
 use Rattle.profile.specs.Reader.{Memory, Reading, holds, note, read}
 use Rattle.profile.specs.Pieces.{Stop, stop, meant, reference_stop, data_stop}
-use Rattle.profile.specs.Pieces as pieces
 use Rattle.profile.specs.Notes.{stretched, marked, with_run, holding}
 use Rattle.profile.proofs.Passes.{read_goes}
 use Rattle.profile.proofs.Pieces.{Stays, owed, loop-passes}

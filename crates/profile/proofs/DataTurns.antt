@@ -3,7 +3,7 @@
 --   reference_firm, data_firm   so a reference, and data up to the next `<`
 --   data_turn_lem       data inside an element; space-turn: outside the root
 -- Letters as in specs/Turns; d m the depth and the nodes met. Assumes nothing.
-use Prim.Native.Nat.{ℕ, zero, suc, ◌+◌, ◌≤◌, ◌<◌}
+use Prim.Native.Nat.{ℕ, zero, suc, ◌+◌, ◌≤◌}
 use mathlib.Core.Path.{◌≡◌, refl, sym, ap, ap₂, subst, ◌∙◌}
 use mathlib.Core.Logic.{⊎_elim}
 use mathlib.Core.List.{List, [], ◌∷◌}
@@ -18,7 +18,7 @@ use borrow.Author.Tests.{eqb-true, eqb-false, eq-eqb, ne_eqb, ltb-true, ltb-fals
 use Rattle.seq.proofs.Laws.Bools.{bool_cases, and_false-right}
 use Rattle.profile.specs.Bytes.{'&', semicolon, '<', char, white, data_char, starts_with}
 use Rattle.profile.specs.Spans.{span, common}
-use Rattle.profile.specs.Machine.{Place, before, after, inside, Brackets, b0, State, between, ampersand, ampersand_a, owing, expect, run_byte, run_next, step_between, step_ampersand, step_ampersand_a, step, accepting}
+use Rattle.profile.specs.Machine.{Place, inside, Brackets, b0, State, between, ampersand, ampersand_a, owing, expect, run_byte, run_next, step_between, step_ampersand, step_ampersand_a, step, accepting}
 use Rattle.profile.specs.Check.{Tally, Reply, broken, over, meets, depth_after, solid_after, count, full, check}
 use Rattle.profile.specs.Pieces.{Stop, stop, meant, reference_stop, data_stop, DATA, piece}
 use Rattle.profile.specs.Pieces as pieces

@@ -2,7 +2,7 @@
 --   check-turn   the rest of a text from the state between two pieces, by its next piece
 --   turn-lawful  a turn that goes on leaves lawful names
 -- Letters as in specs/Turns. Assumes nothing.
-use Prim.Native.Nat.{ℕ, suc, ◌+◌, ◌-◌}
+use Prim.Native.Nat.{ℕ, suc, ◌+◌}
 use mathlib.Core.Path.{◌≡◌, refl, sym, ap, subst, ◌∙◌}
 use mathlib.Core.Logic.{◌⊎◌, inl, inr, ⊎_elim}
 use mathlib.Core.List.{List, [], ◌∷◌}

@@ -4,8 +4,8 @@
 use Prim.Native.Nat.{ℕ}
 use Prim.Native.String.{String}
 use mathlib.Core.Path.{◌≡◌, refl}
-use mathlib.Core.List.{List, [], ◌∷◌, ◌++◌}
-use mathlib.Core.Bool.{Bool, true}
+use mathlib.Core.List.{List, [], ◌∷◌}
+use mathlib.Core.Bool.{true}
 use Rattle.seq.specs.Lists.{every_of, same_list}
 use Rattle.seq.specs.Memory.{over}
 use Rattle.text.specs.Text.{bytes, ended, line_length, field_length, digit, numeral, value_from, number_or, digits_in, decimal}

@@ -1,5 +1,7 @@
 // Texts of RFC 4180 without quoted fields (01, "The table program"): the ends of lines and fields, numbers, and writing to the front of a buffer.
 // Each function takes slices of any length and any content. What does not fit a buffer is not written, and the next place stays at the buffer's end.
+#![tactic(auto)]
+
 ghost use Rattle.std.specs.Prelude.{◌≡◌, ◌+◌, ◌∷◌, [], length, drop};
 ghost use Rattle.text.specs.Text.{ended, line_length, field_length, number_or, decimal};
 ghost use Rattle.text.specs.Buffers.{Adds};
