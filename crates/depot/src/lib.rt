@@ -1,5 +1,7 @@
 // The check of an index that a depot lends, one without counts, before a search on a stack (02, Q-3; 01, "Replies").
 // One entry point, `check`: SIZE, TREE, LIST in this order. Slices of any length and any content may be lent, and are only read.
+#![tactic(auto)]
+
 ghost use Rattle.std.specs.Prelude.{◌≡◌};
 ghost use Rattle.index.specs.Replies.{accepted, totalled};
 ghost use Rattle.depot.specs.Depot.{depot, depot_size_ok, depot_checked};
