@@ -1,5 +1,7 @@
 // What every search asks before it looks for answers: a right index and, unless the caller asks for the empty answer, positive words that occur
 // somewhere (02, Q-6). One entry point, `admit`: SIZE, TREE, LIST, COUNT as the index check has them, then UNKNOWN.
+#![tactic(auto)]
+
 ghost use Rattle.std.specs.Prelude.{◌≤◌, ◌≡◌, length};
 ghost use Rattle.index.specs.Promises.{lent};
 ghost use Rattle.known.specs.Inner.{first_empty};

@@ -1,6 +1,5 @@
 -- `known::first_empty` meets its contract: glue over Laws.
 use native.Mathlib.Omega.{arith}
-use Prim.Native.Nat.{◌-◌}
 use mathlib.Core.Path.{refl}
 use Rattle.known.proofs.Laws.{moves-start, moves-stop, moves-step, moves-end}
 use Rattle.known.proofs.first_empty.Goals as goal
