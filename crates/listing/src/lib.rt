@@ -1,4 +1,6 @@
 // Listing flagged nodes: how many there are, and their numbers written to out in increasing order (01, "Replies" and "Memory").
+#![tactic(auto)]
+
 ghost use Rattle.std.specs.Prelude.{◌≡◌, length};
 ghost use Rattle.seq.specs.Below.{listed};
 ghost use Rattle.seq.specs.Memory.{over};
