@@ -4,7 +4,7 @@
 --   text_to p t i v     == one of them is text
 --   kid_code p t i v    == 0 for none of them, 1 for exactly one, which is text, 2 otherwise
 --   code_to p t i v     == the code of v by the children below i
---   grown k x          == the code k after one more child, whose tag is x
+--   grown k x           == the code k after one more child, whose tag is x
 --   entity_by x k       == a node with the tag x and the code k is an entity
 --   closest_by x k v u  == v where that makes it an entity, else u, the closest entity of its parent
 -- Letters: p parents, t tags, n nodes, w a row of codes; v node, c child, i nodes passed; k code, x tag. Laws are in proofs/. Assumes nothing.

@@ -1,5 +1,7 @@
 // Entities, and the closest entity of each node (01, "Which nodes are listed": Node classes, with 02's Q-1; source document 002).
 // One entry point, `find_closest`. Slices of any length and any content may be lent. Which nodes are entities is asked in `is_entity` alone.
+#![tactic(auto)]
+
 ghost use Rattle.std.specs.Prelude.{◌≡◌, ◌≤◌, length};
 ghost use Rattle.answers.specs.Classes.{closest};
 ghost use Rattle.entities.specs.Inner.{grown, entity_by, closest_by, Holds, TreePre, codes};

@@ -1,5 +1,7 @@
 // 32-bit FNV-1a (02, Q-5): the hash of a row of bytes, by which words are placed in a table.
 // Its product modulo 2 to the 32 is made of wrapping additions, unrolled: a loop would double and add for each byte of each word.
+#![tactic(auto)]
+
 ghost use Rattle.std.specs.Prelude.{◌≡◌, ◌*◌, ◌%◌, ◌^◌};
 ghost use Rattle.fnv.specs.Fnv.{FACTOR, hash_step};
 

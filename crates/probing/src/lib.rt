@@ -1,1 +1,2 @@
 // A fixed table of words with linear probing: definitions and theorems alone.
+#![tactic(auto)]

@@ -1,4 +1,6 @@
 // Reads a table (01, "The table program"): p, q, how many nodes there are and the numbers on their lines, or the first line that breaks a rule.
+#![tactic(auto)]
+
 mod header;
 
 ghost use Rattle.std.specs.Prelude.{◌≡◌, ◌≤◌, length, drop};

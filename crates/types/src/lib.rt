@@ -1,5 +1,7 @@
 // Types: which nodes are of a type that repeats (02, Q-1: some node of the type has a sibling with its tag).
 // One entry point, `flag_repeated`. Slices of any length and any content may be lent. The work grows with the nodes, whatever the tags are.
+#![tactic(auto)]
+
 mod number;
 mod order;
 

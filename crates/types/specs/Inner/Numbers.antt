@@ -3,7 +3,7 @@
 --   type_number p t v   == the number of v's type: the lowest node of that type
 --   number_in w v       == the number that the first row holds at v
 --   flag_in w v         == 1 where the first row has a flag at v, else 0
---   TakenUp …          == what taking up one node does to the rows
+--   TakenUp …           == what taking up one node does to the rows
 -- Letters: p parents, t tags, n nodes, m elements, w rows, w' as they are afterwards; v u nodes; at, where the order begins; last, where the row of last children begins.
 -- Assumes nothing.
 use Rattle.std.specs.Prelude.{ℕ, ◌+◌, ◌*◌, ◌/◌, ◌%◌, ◌≤◌, ◌<◌, ◌≡◌, ◌⊎◌, List, not, cond, length, get_or, set}
