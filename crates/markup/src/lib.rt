@@ -1,5 +1,7 @@
 // One piece of markup at a place of a text: what it is, whether it is whole, and where it ends or breaks (`profile`, specs/Pieces).
 // Each piece is read by octets::skip over its name, data or comment, by octets::white over its white space, and by a few tests of single bytes between them.
+#![tactic(auto)]
+
 ghost use Rattle.std.specs.Prelude.{◌≡◌, ◌+◌, ◌<◌, false, length, drop};
 ghost use Rattle.profile.specs.Machine.{b0};
 ghost use Rattle.profile.specs.Pieces as pieces;
@@ -24,7 +26,7 @@ pub const NONE: u32 = 6;
 
 // A piece: its kind; whether it is whole; of a tag the place after its name, of data its first byte that is no white space; the place after
 // the piece, or where it is not whole the place of the byte that breaks it.
-#[derive(Drop)]
+#[derive(Clone, Copy)]
 pub struct Piece {
     pub kind: u32,
     pub whole: bool,

@@ -1,4 +1,6 @@
 // A reader that holds the caller's text and its place in it, and gives one piece of markup per call (02, Q-2). The pieces are those of `markup`.
+#![tactic(auto)]
+
 ghost use Rattle.std.specs.Prelude.{◌≡◌};
 ghost use Rattle.pieces.specs.Reading.{begun, place_after, Gives};
 

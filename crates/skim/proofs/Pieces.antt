@@ -16,7 +16,6 @@ use borrow.Author.Tests.{eq-eqb, ne_eqb}
 use Rattle.profile.specs.Bytes.{'!', '-', '/', '<', '>', starts_with}
 use Rattle.profile.specs.Spans.{span, other, low}
 use Rattle.profile.specs.Pieces.{END, DATA, COMMENT, START, EMPTY, CLOSE}
-use Rattle.profile.specs.Pieces as pieces
 use Rattle.profile.proofs.Laws.Spans.{span_le}
 use Rattle.markup.specs.declared.Piece.{Piece}
 use Rattle.markup.specs.Pieces.{piece_from}

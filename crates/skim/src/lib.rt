@@ -1,5 +1,7 @@
 // The piece of markup at a place of a text that was judged: it is told by its last byte, and nothing is judged again.
 // One entry point, `skim_at`. Slices of any length and any content may be lent; what is said of a text that is none of the profile is in specs/Skim.
+#![tactic(auto)]
+
 ghost use Rattle.std.specs.Prelude.{◌≡◌, ◌+◌, ◌<◌, [], ◌∷◌, length, drop};
 ghost use Rattle.profile.specs.Bytes.{'-'};
 ghost use Rattle.markup.specs.Pieces.{piece_from};
