@@ -45,7 +45,7 @@ slice_bounds-counts_bad-end-2 c =
 pub counts_bad-bad_entry-requires : goal.counts_bad-bad_entry-requires
 counts_bad-bad_entry-requires c =
     count-pre _ c.args.work.now c.requires _ c.clear.ensures
-    (omega (arith, c.tree_bad-bad_node.ensures, c.if-bad_node-n.false)) (omega (arith, c.lists_bad-bad_word.ensures, c.if-bad_word-k.false)) (λ i. omega (arith, c.well_formed, c.shared_slice_known-3-1.given i))
+    (omega (arith, c.tree_bad-bad_node.ensures, c.if-bad_node-n.false)) (omega (arith, c.lists_bad-bad_word.ensures, c.if-bad_word-k.false)) (λ i. omega (arith, c.well_formed, c.type_inv.ends i))
 
 pub overflow_cast-result-then-bad_entry-counts : goal.overflow_cast-result-then-bad_entry-counts
 overflow_cast-result-then-bad_entry-counts c =
