@@ -1,6 +1,8 @@
 // ELCA: the full nodes whose own count is 1 or more for every word (01, "Which nodes are listed"; source document 001).
 // By Lemma 4 of that document the own count is the count at a node less the counts at its full children.
 // One entry point, `elca`.
+#![tactic(auto)]
+
 mod rows;
 
 ghost use Rattle.std.specs.Prelude.{◌+◌, ◌*◌, eqb};
