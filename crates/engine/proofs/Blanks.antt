@@ -4,9 +4,10 @@
 --   blanked-at, blanked-rest    entry by entry
 --   blanked-same                what is zeroed does not count
 --   Blanking                    what the loop of `clear` knows: i entries are zero, and f turns are left
+--   blanking_again              a turn of it, where m - i turns are left
 -- Letters: ys stack, m entries to zero, i entries that are. Assumes nothing.
 use Prim.Native.Nat.{ℕ, zero, suc, ◌+◌, ◌-◌, ◌≤◌, ◌<◌}
-use mathlib.Core.Path.{◌≡◌, refl, sym, ap, ◌∙◌}
+use mathlib.Core.Path.{◌≡◌, refl, sym, ap, subst, ◌∙◌}
 use mathlib.Core.Logic.{⊎_elim}
 use mathlib.Core.List.{List, [], ◌∷◌, ◌++◌}
 use native.Mathlib.Nat.{not-suc-le-zero, le_of_suc-le-suc}
@@ -17,6 +18,7 @@ use lib.Seq.{get_or-append-add, get_or-drop, ext_get_or}
 use Rattle.seq.proofs.Laws.Numbers.{less_or}
 use Rattle.engine.specs.declared.Entry.{Entry}
 use Rattle.engine.specs.Search.{blank, blanked}
+use Rattle.engine.specs.Inner.Entries.{fresh}
 
 pub blanked-zero : (ys : List Entry) → blanked 0 ys ≡ ys
 unfolding blanked
@@ -79,3 +81,13 @@ module _ (m : ℕ) (ys : List Entry) (enough : m ≤ length ys) where
     where
       same : i ≡ m
       same = omega (arith, w.turns)
+
+  blank-fresh : fresh 0 ≡ blank
+  unfolding blank fresh
+  blank-fresh = refl
+
+  -- A turn that stores an entry with nothing counted, where m - i turns were left.
+  pub blanking_again : (i : ℕ) (l : List Entry) (e : Entry) → e ≡ fresh 0 → i < m → Blanking m ys (m - i) i l → Blanking m ys (m - (i + 1)) (i + 1) (set l i e)
+  blanking_again i l e z s w =
+      subst (λ (x : Entry). Blanking m ys (m - (i + 1)) (i + 1) (set l i x)) (sym (z ∙ blank-fresh))
+      (blanking_step (m - (i + 1)) i l (record { turns = omega (arith, s); list = w.list }))

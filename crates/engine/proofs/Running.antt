@@ -1,14 +1,16 @@
 -- What the loop of `run` knows: where it began, that the pass is going on, and that f turns are enough. The top is held apart, and stored at the begin of a turn.
 --   Turning J v₀ f v t    the loop began in v₀ and has come to v, with t for a top
 --   turning_start, turning_none, turning_at, turning_low, turning_pre, turning_step, turning_end
--- Letters: J job; v₀, v worlds, t₀, t their tops; f turns; n the step made, c, o, w the cursors, out and own after it. Assumes nothing.
-use Prim.Native.Nat.{ℕ, zero, suc, ◌≤◌, ◌<◌}
+--   turning_asks, turning_less, turning_again   a turn, where f is what is left to do
+-- Letters: J job; v₀, v worlds, t₀, t their tops; f turns; n the step made, c, o, w the cursors, out and own after it; d what would stand past the stack. Assumes nothing.
+use Prim.Native.Nat.{ℕ, zero, suc, ◌-◌, ◌≤◌, ◌<◌}
 use mathlib.Core.Path.{◌≡◌, refl, sym, ap, subst, ◌∙◌}
 use mathlib.Core.List.{List}
 use mathlib.Core.Bool.{Bool, true, false}
 use native.Mathlib.Omega.{arith}
-use lib.ListN.{length, length-set}
+use lib.ListN.{length, get_or, set, length-set}
 use lib.Seq.{get_or-set_same, get_or-set_other}
+use Rattle.std.proofs.lemmas.List.{get_or_default}
 use Rattle.seq.proofs.Laws.Bools.{bool-not_both}
 use Rattle.engine.specs.declared.Entry.{Entry}
 use Rattle.engine.specs.declared.steps.Step.{Step}
@@ -92,3 +94,35 @@ module _ (J : Job) (v₀ : World) where
 
   pub turning_end : (f : ℕ) (v : World) (t : Entry) → Turning J v₀ f v t → v.state.on ≡ false → Ran J v₀ v
   turning_end f v t k off = record { idle = k.idle; over = λ _. off; going = λ z. going-over J v t (k.going z) off; kept = k.kept }
+
+  -- ---- turns counted by what is left to do, and the entry below the top with whatever would stand past the stack
+  module _ (v : World) (t : Entry) (k : Turning J v₀ (measure J (opened v t)) v t) (on : v.state.on ≡ true) (d : Entry) where
+    abbrev fewer : ℕ
+    fewer = measure J (opened v t) - 1
+
+    some_left : 0 < measure J (opened v t)
+    unfolding measure
+    some_left = rw on (omega arith)
+
+    counted_turns : Turning J v₀ (suc fewer) v t
+    counted_turns = record { whole = k.whole; idle = k.idle; going = k.going; kept = k.kept; few = omega (arith, some_left) }
+
+    below_same : get_or (set v.stack v.state.at t) v.state.low d ≡ entry_at (set v.stack v.state.at t) v.state.low
+    below_same = get_or_default _ _ d (fresh 0) (turning_low fewer v t counted_turns on)
+
+    pub turning_asks : AdvancePre J.parents J.ends J.occurrences v.cursors v.out v.own v.state t (get_or (set v.stack v.state.at t) v.state.low d)
+    turning_asks =
+        subst (λ (z : Entry). AdvancePre J.parents J.ends J.occurrences v.cursors v.out v.own v.state t z) (sym below_same) (turning_pre fewer v t counted_turns on)
+
+    module _ (n : Step) (c o w : List ℕ)
+        (a : Advanced J.parents J.ends J.occurrences v.cursors v.out v.own v.state t (get_or (set v.stack v.state.at t) v.state.low d) n c o w) where
+      turned : Turning J v₀ fewer (world (set v.stack v.state.at t) c o w n.state) n.top
+      turned =
+          turning_step fewer v t counted_turns on n c o w
+          (subst (λ (z : Entry). Advanced J.parents J.ends J.occurrences v.cursors v.out v.own v.state t z n c o w) below_same a)
+
+      pub turning_less : measure J (opened (world (set v.stack v.state.at t) c o w n.state) n.top) < measure J (opened v t)
+      turning_less = omega (arith, turned.few, some_left)
+
+      pub turning_again : Turning J v₀ (measure J (opened (world (set v.stack v.state.at t) c o w n.state) n.top)) (world (set v.stack v.state.at t) c o w n.state) n.top
+      turning_again = record { whole = turned.whole; idle = turned.idle; going = turned.going; kept = turned.kept; few = omega arith }

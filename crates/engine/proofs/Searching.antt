@@ -1,7 +1,8 @@
 -- From the parts of a search to the whole: two passes, with what is planned before each, and the zeroing of the stack after them.
 --   begin-pre, run-pre, passed-of   a pass, of Passing
 --   first-pre, next-pre, second-pre, cells_fit, searched-of   a search
--- Letters: J job; I index, b whether the smallest are listed; ys, o, w stack, out and own as lent, with 1 to 3 after the first pass, the second, and the zeroing; r₁, r₂ states; f test. Assumes nothing.
+--   first-asks, next-asks, second-asks, cells-asked, searched-all   the same of the plans that the code has made
+-- Letters: J job; I index, b whether the smallest are listed; ys, o, w stack, out and own as lent, with 1 to 3 after the first pass, the second, and the zeroing; r₁, r₂ states; f test; r the reply of the checks, a₁, a₂ plans. Assumes nothing.
 use Prim.Native.Nat.{ℕ, ◌*◌, ◌≤◌}
 use mathlib.Core.Path.{◌≡◌, refl, sym, ap, ap₂, subst, ◌∙◌}
 use mathlib.Core.Logic.{⊎_elim}
@@ -27,7 +28,7 @@ use Rattle.depot.specs.Depot.{depot, depot_size_ok, depot_checked}
 use Rattle.engine.specs.Search.{blanked, stack_after, is_listed, Searched}
 use Rattle.engine.specs.Inner.Entries.{fresh}
 use Rattle.engine.specs.Inner.Going.{Job, total, Sound}
-use Rattle.engine.specs.Inner.Passes.{job, starting, PassPre, Passed, first_plan, NextPre, fitting, next_plan}
+use Rattle.engine.specs.Inner.Passes.{job, starting, PassPre, Passed, plan_at, first_plan, NextPre, fitting, next_plan}
 use Rattle.depot.specs.Plain.{DepotSized}
 use Rattle.depot.proofs.Laws.Checks.{sized_of, sized-words, Clean, Stopped, clean-reply, clean_or_stopped}
 use Rattle.engine.proofs.Laws.Going.{sound-of}
@@ -254,3 +255,39 @@ module _ (p t : List ℕ) (a q : ℕ) (ends occ : List ℕ) (b : Bool) (ys : Lis
           (λ z. subst (λ (z : Plan). ys₃ ≡ blanked z.cells ys₂ → Searched I b ys o w z.reply ys₃ o₂ w₂)
           (sym (plan_stopped z)) (searched_stopped z ys₃))
           (clean_or_stopped I (length ys))
+
+  -- ---- the parts as the code has them
+  module _ (r : Reply) (r-is : r ≡ depot_checked I (length ys) (totalled accepted 0)) (a₁ : Plan) (a₁-is : a₁ ≡ plan_at r b) where
+    first-is : a₁ ≡ first_plan I (length ys) b
+    first-is = a₁-is ∙ ap (λ (z : Reply). plan_at z b) r-is
+
+    pub first-asks : PassPre J ys o w a₁.state
+    first-asks = subst (λ (z : Plan). PassPre J ys o w z.state) (sym first-is) first-pre
+
+    module _ (r₁ : State) (ys₁ : List Entry) (o₁ w₁ : List ℕ) (one : Passed J ys o w a₁.state r₁ ys₁ o₁ w₁) where
+      one-is : Passed J ys o w (first_plan I (length ys) b).state r₁ ys₁ o₁ w₁
+      one-is = subst (λ (z : Plan). Passed J ys o w z.state r₁ ys₁ o₁ w₁) first-is one
+
+      pub next-asks : NextPre a₁ r₁.left (length ends)
+      next-asks = subst (λ (z : Plan). NextPre z r₁.left (length ends)) (sym first-is) (next-pre r₁ ys₁ o₁ w₁ one-is)
+
+      module _ (long-o : length o₁ ≡ length o) (long-w : length w₁ ≡ length w) (a₂ : Plan) (a₂-is : a₂ ≡ next_plan a₁ r₁.left (length ends) (length o₁) (length w₁)) where
+        second-is : a₂ ≡ next_plan (first_plan I (length ys) b) r₁.left (length ends) (length o) (length w)
+        second-is =
+            a₂-is ∙ ap₂ (λ (x y : ℕ). next_plan a₁ r₁.left (length ends) x y) long-o long-w
+            ∙ ap (λ (z : Plan). next_plan z r₁.left (length ends) (length o) (length w)) first-is
+
+        pub second-asks : PassPre J ys₁ o₁ w₁ a₂.state
+        second-asks = subst (λ (z : Plan). PassPre J ys₁ o₁ w₁ z.state) (sym second-is) (second-pre r₁ ys₁ o₁ w₁ one-is)
+
+        module _ (r₂ : State) (ys₂ : List Entry) (o₂ w₂ : List ℕ) (two : Passed J ys₁ o₁ w₁ a₂.state r₂ ys₂ o₂ w₂) where
+          two-is : Passed J ys₁ o₁ w₁ (next_plan (first_plan I (length ys) b) r₁.left (length ends) (length o) (length w)).state r₂ ys₂ o₂ w₂
+          two-is = subst (λ (z : Plan). Passed J ys₁ o₁ w₁ z.state r₂ ys₂ o₂ w₂) second-is two
+
+          pub cells-asked : a₂.cells ≤ length ys₂
+          cells-asked = subst (λ (z : Plan). z.cells ≤ length ys₂) (sym second-is) (cells_fit r₁ ys₁ o₁ w₁ one-is r₂ ys₂ o₂ w₂ two-is)
+
+          pub searched-all : (ys₃ : List Entry) → ys₃ ≡ blanked a₂.cells ys₂ → Searched I b ys o w a₂.reply ys₃ o₂ w₂
+          searched-all ys₃ =
+              subst (λ (z : Plan). ys₃ ≡ blanked z.cells ys₂ → Searched I b ys o w z.reply ys₃ o₂ w₂) (sym second-is)
+              (searched-of r₁ ys₁ o₁ w₁ one-is r₂ ys₂ o₂ w₂ two-is ys₃)

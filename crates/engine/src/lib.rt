@@ -1,6 +1,8 @@
 // A search without counts (02, Q-3; source document 001's older method): the occurrence lists are merged, from the last occurrence to the first, over a lent stack of open nodes.
 // Nodes are closed in reverse document order then: the answers are counted by one merge, and written from the end of out and own by a second.
 // One entry point, `search`.
+#![tactic(auto)]
+
 ghost use Rattle.depot.specs.Depot.{depot};
 ghost use Rattle.engine.specs.Search.{Searched};
 
@@ -14,7 +16,7 @@ mod steps;
 
 // An open node: of each word's occurrences met under it so far, those that are its own, and those that a full node below it covers.
 #[repr(C)]
-#[derive(Drop)]
+#[derive(Clone, Copy)]
 pub struct Entry {
     pub node: u32,
     pub own: [u32; 8],

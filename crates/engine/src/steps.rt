@@ -6,7 +6,7 @@ ghost use Rattle.engine.specs.Inner.Writing.{CopyPre, PutPre, Put, JudgePre, Jud
 use crate::{Entry, cursors, entries};
 
 // What one step hands to the next, beside the stack and the cursors.
-#[derive(Drop)]
+#[derive(Clone, Copy)]
 pub(crate) struct State {
     // whether there is a step to make
     pub on: bool,

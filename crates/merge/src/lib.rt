@@ -1,5 +1,7 @@
 // ELCA and SLCA without counts (02, Q-3), by the engine that merges the occurrence lists over a lent stack.
 // Two entry points, `elca` and `slca`.
+#![tactic(auto)]
+
 ghost use Rattle.depot.specs.Depot.{depot};
 ghost use Rattle.merge.specs.Merge.{MergedElca, MergedSlca};
 

@@ -7,7 +7,7 @@
 --   raised-held, raised-full       a new entry into which a node has been closed holds what that node held
 --   raised-answers                 and its own node is no answer
 -- Letters: k words, j word; e, b entries; a, h counts; q node.
-use Prim.Native.Nat.{ℕ, zero, suc, ◌+◌, ◌-◌, ◌≤◌, ◌<◌}
+use Prim.Native.Nat.{ℕ, zero, suc, ◌+◌, ◌≤◌, ◌<◌}
 use mathlib.Core.Path.{◌≡◌, refl, ap, ◌∙◌}
 use mathlib.Core.List.{List}
 use mathlib.Core.Bool.{Bool, true, false, cond, ◌&&◌}

@@ -7,7 +7,7 @@
 --   counted-all, length-rows, written_all   the end: all answers have been counted, or written; how many own counts they have
 --   sound-of            the checks show what is asked of a job
 -- Letters: J job; u, u₀, u', u'' worlds; ys stack, c cursors, r' reach; o, w out and own; b whether the smallest are listed; m answers left; i entry.
-use Prim.Native.Nat.{ℕ, ◌+◌, ◌-◌, ◌*◌, ◌≤◌, ◌<◌}
+use Prim.Native.Nat.{ℕ, ◌+◌, ◌*◌, ◌≤◌, ◌<◌}
 use mathlib.Core.Path.{◌≡◌, refl, sym, ap, subst, ◌∙◌}
 use mathlib.Core.List.{List}
 use mathlib.Core.Bool.{Bool, true, false}
