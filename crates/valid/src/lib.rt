@@ -1,6 +1,8 @@
 // The search with NOT (01, "Which nodes are listed": valid SLCA; source document 002).
 // One entry point, `valid`. The SLCAs are found first, on all occurrences of the positive words; then those are kept under which every positive word
 // has a valid occurrence.
+#![tactic(auto)]
+
 mod tops;
 
 ghost use Rattle.std.specs.Prelude.{◌≤◌, length};
