@@ -63,7 +63,7 @@ pub(crate) fn second(a: Plan, m: usize, k: usize, out: usize, own: usize) -> Pla
     requires { NextPre a m k }
     ensures { result ≡ next_plan a m k out own }
 {
-    let r = &a.reply;
+    let r = a.reply;
     if r.refusal != index::ACCEPTED {
         return a;
     }
