@@ -11,11 +11,10 @@ use lib.ListN.{length, drop, length-drop}
 use lib.Seq.{drop-drop}
 use borrow.Author.Tests.{lt-ltb, le-ltb}
 use Rattle.index.specs.Replies.{SIZE, refused}
-use Rattle.index.specs.declared.Reply.{Reply}
 use Rattle.profile.specs.Machine.{Place, b0, between}
 use Rattle.profile.specs.Check.{Tally, check, reply_to}
 use Rattle.profile.specs.Check as check
-use Rattle.profile.specs.Pieces.{Piece, piece_of}
+use Rattle.profile.specs.Pieces.{piece_of}
 use Rattle.profile.specs.Turns.{halt, go, follow, tally, turn, lawful}
 use Rattle.profile.specs.Turns as turns
 use Rattle.profile.proofs.Turns.{check-turn}

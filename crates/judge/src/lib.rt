@@ -1,5 +1,7 @@
 // The judge of a text: whether it is a text of the profile within the limits, and how many nodes it has (02, Q-2). It writes nothing.
 // One entry point, `judge`: SIZE, then MARKUP or TREE, whichever comes first in the text.
+#![tactic(auto)]
+
 mod turns;
 
 ghost use Rattle.std.specs.Prelude.{◌≡◌};

@@ -14,7 +14,7 @@ use Rattle.names.specs.Inner.Tree.{Tree, leaf, fork, In, itself, in_left, in_rig
 use Rattle.names.proofs.Shape.{find-left, find-right, find_in, top-past, told-alike}
 
 -- ---- leaves
-pub grow_in : {n d v s q y : ℕ} {β : ℕ → Bool} {T N : Tree} → Grow n β d v s T q N → In y N → (y ≡ v) ⊎ In y T
+pub grow_in : {n d v : ℕ} {β : ℕ → Bool} {s q y : ℕ} {T N : Tree} → Grow n β d v s T q N → In y N → (y ≡ v) ⊎ In y T
 grow_in (new_left t e) (in_left itself) = inl refl
 grow_in (new_left t e) (in_right h) = inr h
 grow_in (new_right t e) (in_left h) = inr h
@@ -24,13 +24,13 @@ grow_in (go_left l e g) (in_right h) = inr (in_right h)
 grow_in (go_right l e g) (in_left h) = inr (in_left h)
 grow_in (go_right l e g) (in_right h) = ⊎_elim (λ q. inl q) (λ q. inr (in_right q)) (grow_in g h)
 
-pub grow-new : {n d v s q : ℕ} {β : ℕ → Bool} {T N : Tree} → Grow n β d v s T q N → In v N
+pub grow-new : {n d v : ℕ} {β : ℕ → Bool} {s q : ℕ} {T N : Tree} → Grow n β d v s T q N → In v N
 grow-new (new_left t e) = in_left itself
 grow-new (new_right t e) = in_right itself
 grow-new (go_left l e g) = in_left (grow-new g)
 grow-new (go_right l e g) = in_right (grow-new g)
 
-pub grow-old : {n d v s q y : ℕ} {β : ℕ → Bool} {T N : Tree} → Grow n β d v s T q N → In y T → In y N
+pub grow-old : {n d v : ℕ} {β : ℕ → Bool} {s q y : ℕ} {T N : Tree} → Grow n β d v s T q N → In y T → In y N
 grow-old (new_left t e) h = in_right h
 grow-old (new_right t e) h = in_left h
 grow-old (go_left l e g) (in_left h) = in_left (grow-old g h)
@@ -39,11 +39,13 @@ grow-old (go_right l e g) (in_left h) = in_left h
 grow-old (go_right l e g) (in_right h) = in_right (grow-old g h)
 
 -- ---- inner nodes
-pub grow-has : {n d v s q x : ℕ} {β : ℕ → Bool} {T N : Tree} → Grow n β d v s T q N → Has x N → (x ≡ v) ⊎ Has x T
+pub grow-has : {n d v : ℕ} {β : ℕ → Bool} {s q x : ℕ} {T N : Tree} → Grow n β d v s T q N → Has x N → (x ≡ v) ⊎ Has x T
 grow-has (new_left t e) top = inl refl
+grow-has (new_left t e) (has_left h) = elim h [ ]
 grow-has (new_left t e) (has_right h) = inr h
 grow-has (new_right t e) top = inl refl
 grow-has (new_right t e) (has_left h) = inr h
+grow-has (new_right t e) (has_right h) = elim h [ ]
 grow-has (go_left l e g) top = inr top
 grow-has (go_left l e g) (has_left h) = ⊎_elim (λ q. inl q) (λ q. inr (has_left q)) (grow-has g h)
 grow-has (go_left l e g) (has_right h) = inr (has_right h)
@@ -52,7 +54,7 @@ grow-has (go_right l e g) (has_left h) = inr (has_left h)
 grow-has (go_right l e g) (has_right h) = ⊎_elim (λ q. inl q) (λ q. inr (has_right q)) (grow-has g h)
 
 -- Where x is told from v, x is an inner node of the old tree.
-grow_had : {n d v s q x : ℕ} {β : ℕ → Bool} {T N : Tree} → Grow n β d v s T q N → (x ≡ v → ⊥) → Has x N → Has x T
+grow_had : {n d v : ℕ} {β : ℕ → Bool} {s q x : ℕ} {T N : Tree} → Grow n β d v s T q N → (x ≡ v → ⊥) → Has x N → Has x T
 grow_had g ne h = ⊎_elim (λ q. absurd (ne q)) (λ q. q) (grow-has g h)
 
 pub none-leaf : {x v : ℕ} → Has x (leaf v) → ⊥
@@ -62,7 +64,7 @@ none-leaf = elim [ ]
 pub has_other : {u v : ℕ} (T : Tree) → Has u T → (Has v T → ⊥) → u ≡ v → ⊥
 has_other T h f e = f (subst (λ (k : ℕ). Has k T) e h)
 
-pub grow-apart : {n d v s q : ℕ} {β : ℕ → Bool} {T N : Tree} → Grow n β d v s T q N → (Has v T → ⊥) → Apart T → Apart N
+pub grow-apart : {n d v : ℕ} {β : ℕ → Bool} {s q : ℕ} {T N : Tree} → Grow n β d v s T q N → (Has v T → ⊥) → Apart T → Apart N
 grow-apart (new_left t e) f a = apart_fork none-leaf f (λ x h i. none-leaf h) apart_leaf a
 grow-apart (new_right t e) f a = apart_fork f none-leaf (λ x h i. none-leaf i) a apart_leaf
 grow-apart (go_left {u = u} {b = b} {l = l} {r = r} lt e g) f (apart_fork p q o x y) =

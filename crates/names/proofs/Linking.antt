@@ -31,7 +31,7 @@ at_right_lem {u = u} (at_top e) = at_right u top e
 at_right_lem (at_left x h e) = at_left x (has_right h) e
 at_right_lem (at_right x h e) = at_right x (has_right h) e
 
-pub grow-at : {n d v s q : ℕ} {β : ℕ → Bool} {T N : Tree} → Grow n β d v s T q N → At n s T q
+pub grow-at : {n d v : ℕ} {β : ℕ → Bool} {s q : ℕ} {T N : Tree} → Grow n β d v s T q N → At n s T q
 grow-at (new_left t e) = at_top refl
 grow-at (new_right t e) = at_top refl
 grow-at (go_left l e g) = at_left_lem (grow-at g)
@@ -109,23 +109,23 @@ kept_at n q z w u l s a b = record {
   bit = get_or-set_other w q (2 * n + u) z 0 (λ e. absurd (omega (arith, e)));
 }
 
-pub grow-rep : {n d v s q m : ℕ} {w : List ℕ} {β : ℕ → Bool} {bit : ℕ → ℕ → Bool} {T N : Tree} → Grow n β d v s T q N → Ready n v d w β q → m ≤ d →
+pub grow-rep : {n d v : ℕ} {β : ℕ → Bool} {s q m : ℕ} {w : List ℕ} {bit : ℕ → ℕ → Bool} {T N : Tree} → Grow n β d v s T q N → Ready n v d w β q → m ≤ d →
     Rep n w m (get_or w s 0) T → Apart T → (Has v T → ⊥) → Outside n v s T → Told bit T → (bit (find β T) d ≡ β d → ⊥) →
     Rep n (set w q (2 * v + 1)) m (get_or (set w q (2 * v + 1)) s 0) N
-grow-rep {n} {d} {v} {s} {w = w} {β = β} {T = T} (new_left t e) y md r a f o told ne =
+grow-rep {n} {d} {v} {β} {s} {w = w} {T = T} (new_left t e) y md r a f o told ne =
     rep_fork {l = _} {r = T} (get_or-set_same w s _ 0 y.within) y.some y.below (y.bit ∙ sym own.bit) md y.few (rep_leaf (own.left ∙ y.near_left e) y.below)
     (rw (own.right ∙ y.far_right e) (rep-keeps (λ u h. kept_at n s _ w u (rep_has r h).below o.small (o.off_left u h) (o.off_right u h)) (rep-from r (top-past β told t ne))))
   where
     own : Kept n w (set w s (2 * v + 1)) v
     own = kept_at n s _ w v y.below o.small o.not_left o.not_right
-grow-rep {n} {d} {v} {s} {w = w} {β = β} {T = T} (new_right t e) y md r a f o told ne =
+grow-rep {n} {d} {v} {β} {s} {w = w} {T = T} (new_right t e) y md r a f o told ne =
     rep_fork {l = T} {r = _} (get_or-set_same w s _ 0 y.within) y.some y.below (y.bit ∙ sym own.bit) md y.few
     (rw (own.left ∙ y.far_left e) (rep-keeps (λ u h. kept_at n s _ w u (rep_has r h).below o.small (o.off_left u h) (o.off_right u h)) (rep-from r (top-past β told t ne))))
     (rep_leaf (own.right ∙ y.near_right e) y.below)
   where
     own : Kept n w (set w s (2 * v + 1)) v
     own = kept_at n s _ w v y.below o.small o.not_left o.not_right
-grow-rep {n} {d} {v} {s} {q} {w = w} {β = β} {bit = bit} (go_left {u = u} {b = b} {l = l} {r = r} {l' = l'} lt e g) y md (rep_fork ek z lu eb mb bb x x') (apart_fork p p' disjoint al ar) f o (told_fork zs os like tl te) ne =
+grow-rep {n} {d} {v} {β} {s} {q} {w = w} {bit = bit} (go_left {u = u} {b = b} {l = l} {r = r} {l' = l'} lt e g) y md (rep_fork ek z lu eb mb bb x x') (apart_fork p p' disjoint al ar) f o (told_fork zs os like tl te) ne =
     rep_fork {l = l'} {r = r} (get_or-set_other w q s _ 0 (outside-not under (grow-at g) (o.off_left u top)) ∙ ek) z lu (eb ∙ sym own) mb bb
     (grow-rep g y lt x al (λ h. f (has_left h)) inside tl (λ i. ne (ap (λ (k : ℕ). bit k d) (find-left β u b l r e) ∙ i)))
     (rw other (rep-keeps (λ i h. kept_at n q _ w i (rep_has x' h).below small (off i h).0 (off i h).1) x'))
@@ -156,7 +156,7 @@ grow-rep {n} {d} {v} {s} {q} {w = w} {β = β} {bit = bit} (go_left {u = u} {b =
 
     other : get_or (set w q (2 * v + 1)) (n + u) 0 ≡ get_or w (n + u) 0
     other = get_or-set_other w q (n + u) _ 0 (λ j. other-left here x p (grow-at g) (sym j))
-grow-rep {n} {d} {v} {s} {q} {w = w} {β = β} {bit = bit} (go_right {u = u} {b = b} {l = l} {r = r} {r' = r'} lt e g) y md (rep_fork ek z lu eb mb bb x x') (apart_fork p p' disjoint al ar) f o (told_fork zs os like tl te) ne =
+grow-rep {n} {d} {v} {β} {s} {q} {w = w} {bit = bit} (go_right {u = u} {b = b} {l = l} {r = r} {r' = r'} lt e g) y md (rep_fork ek z lu eb mb bb x x') (apart_fork p p' disjoint al ar) f o (told_fork zs os like tl te) ne =
     rep_fork {l = l} {r = r'} (get_or-set_other w q s _ 0 (outside-not under (grow-at g) (o.off_right u top)) ∙ ek) z lu (eb ∙ sym own) mb bb
     (rw other (rep-keeps (λ i h. kept_at n q _ w i (rep_has x h).below small (off i h).0 (off i h).1) x))
     (grow-rep g y lt x' ar (λ h. f (has_right h)) inside te (λ i. ne (ap (λ (k : ℕ). bit k d) (find-right β u b l r e) ∙ i)))

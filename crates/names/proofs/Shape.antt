@@ -9,7 +9,7 @@
 -- Letters as in specs/Inner/Tree. Assumes nothing.
 use Prim.Native.Nat.{ℕ, suc, ◌+◌, ◌*◌, ◌≤◌, ◌<◌}
 use mathlib.Core.Path.{◌≡◌, refl, sym, ap, ◌∙◌}
-use mathlib.Core.Logic.{◌⊎◌, ⊎_elim}
+use mathlib.Core.Logic.{⊎_elim}
 use mathlib.Core.List.{List}
 use mathlib.Core.Bool.{Bool, true, false}
 use native.Mathlib.Nat.{eq-or-lt_of_le}
@@ -23,7 +23,8 @@ pub record Inner (n u : ℕ) : Type 0 where
   pub some : 0 < u
   pub below : u < n
 
-pub rep_has : {n m k u : ℕ} {w : List ℕ} {T : Tree} → Rep n w m k T → Has u T → Inner n u
+pub rep_has : {n : ℕ} {w : List ℕ} {m k u : ℕ} {T : Tree} → Rep n w m k T → Has u T → Inner n u
+rep_has (rep_leaf e l) h = elim h [ ]
 rep_has (rep_fork e z l eb a c x y) top = record { some = z; below = l }
 rep_has (rep_fork e z l eb a c x y) (has_left h) = rep_has x h
 rep_has (rep_fork e z l eb a c x y) (has_right h) = rep_has y h
@@ -34,7 +35,7 @@ pub record Kept (n : ℕ) (w w' : List ℕ) (u : ℕ) : Type 0 where
   pub right : get_or w' (n + u) 0 ≡ get_or w (n + u) 0
   pub bit : get_or w' (2 * n + u) 0 ≡ get_or w (2 * n + u) 0
 
-pub rep-keeps : {n m k : ℕ} {w w' : List ℕ} {T : Tree} → ((u : ℕ) → Has u T → Kept n w w' u) → Rep n w m k T → Rep n w' m k T
+pub rep-keeps : {n : ℕ} {w w' : List ℕ} {m k : ℕ} {T : Tree} → ((u : ℕ) → Has u T → Kept n w w' u) → Rep n w m k T → Rep n w' m k T
 rep-keeps h (rep_leaf e l) = rep_leaf e l
 rep-keeps h (rep_fork {u = u} {l = p} {r = q} e z l eb a c x y) =
     rep_fork {l = p} {r = q} e z l (eb ∙ sym (h u top).bit) a c (rw (h u top).left (rep-keeps (λ v i. h v (has_left i)) x))

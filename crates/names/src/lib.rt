@@ -1,6 +1,8 @@
 // The names of a row of nodes, numbered in order of first appearance. `number` is the entry: the marks of the nodes become the numbers.
 // Names are looked up in a tree that tells them apart bit by bit (`lookup`): a name that was seen before is found in at most eight steps for each of its bytes, and eight
 // more, whatever the other names are. Most texts have few names, each many times: while few were seen, one node with a name like it is looked at first (`recent`).
+#![tactic(auto)]
+
 ghost use Rattle.names.specs.Names.{Numbered};
 ghost use Rattle.names.specs.Inner.Calls.{Fit, TurnPre, NamedPre, Turned, All};
 

@@ -39,7 +39,7 @@ use Rattle.reader.specs.declared.build.State.{State}
 use Rattle.names.specs.Names.{names}
 use Rattle.reader.specs.Inner.{Rows, rows, Store, path_in, blank, flushed_met, flushed_rows, Flushed, data_state, put_node, above, tag_store, turn_store, Room, TurnPre, mark_of, mark, BuildPre, Built}
 use Rattle.reader.proofs.Calls.{tag-close, tag-start, tag-empty, turn_data_lem, turn-comment, turn-tag, turn-middle}
-use Rattle.reader.proofs.Rows.{Sized, written, written-nil, written-sized, written_all}
+use Rattle.reader.proofs.Rows.{Sized, written-nil, written-sized, written_all}
 use Rattle.reader.proofs.Depth.{Follows, follows_start, follows_end, follows_data, follows_room, follows_tag, follows_some, follows_close, follows_rest, few}
 use Rattle.reader.proofs.Names.{IsTag, tag-named, name-behind, names-map}
 use Rattle.reader.proofs.Mirror.{top_below, top_le, noted-close, noted-start, noted-empty, named-nil, named-is, Mirror, thin_nodes, mirror-met, met_le, mirror-opened, mirror-emptied, mirror-closed, mirror-comment, mirror_data}

@@ -1,5 +1,7 @@
 // The reader of XML (02, Q-2): from the bytes of a text to the parents, the tags and the places of its nodes.
 // One entry point, `read`: SIZE, then MARKUP or TREE, whichever comes first in the text, then ROOM. Slices of any length and any content may be lent.
+#![tactic(auto)]
+
 mod build;
 
 ghost use Rattle.std.specs.Prelude.{◌≡◌};

@@ -14,7 +14,7 @@ use lib.Dec.{ltb, leb}
 use lib.ListN.{length, length-map, get_or, drop, length-append}
 use borrow.Author.Tests.{ltb-true, ltb-false}
 use Rattle.seq.proofs.Laws.Bools.{bool_cases}
-use Rattle.tree.specs.Tree.{parent, level, under}
+use Rattle.tree.specs.Tree.{parent, level}
 use Rattle.tree.specs.Rules.{tree_bad}
 use Rattle.tree.specs.Plain.{Under, itself, above, Down, NodeKept}
 use Rattle.tree.proofs.Laws.Lines.{level-root, level-suc}
