@@ -1,5 +1,7 @@
 // A table of the words of a text over lent slots, by the rule of `probing`: a slot is 0 where it is free, and else one more than the place in the text of the word that it holds.
 // Words of the text are put in by their places, and any word that is lent as bytes is looked up. No remainder is taken in a loop, and none by 0. Text and slots may hold anything.
+#![tactic(auto)]
+
 ghost use Rattle.std.specs.Prelude.{◌≡◌, map};
 ghost use Rattle.fnv.specs.Fnv.{hash_of};
 ghost use Rattle.words.specs.Runs.{lower};

@@ -1,5 +1,7 @@
 // Words that stand in a text, each by the place of its first byte: comments may stand inside them, and letters are compared without case.
 // A word is hashed, compared with another of the text, or with one that is lent as bytes. The text is any bytes: no reader need have accepted it.
+#![tactic(auto)]
+
 ghost use Rattle.std.specs.Prelude.{◌≡◌, ◌+◌, map, drop};
 ghost use Rattle.seq.specs.Lists.{every_of, same_list};
 ghost use Rattle.fnv.specs.Fnv.{hash_of};

@@ -1,5 +1,7 @@
 // Where the words of a text start: one call gives the next one, with its node. The text was judged: it is cut by the first bytes of its markup (`words`, specs/Scan).
 // One entry point, `next`. Slices of any length and any content may be lent.
+#![tactic(auto)]
+
 ghost use Rattle.std.specs.Prelude.{◌≡◌, ◌+◌, ◌<◌, drop};
 ghost use Rattle.profile.specs.Spans.{span};
 ghost use Rattle.words.specs.Scan.{behind};

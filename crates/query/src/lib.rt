@@ -1,5 +1,7 @@
 // The words of a query, lent as bytes and ends (02, Q-5): whether they are 1 to 8 words of letters and digits, their hashes, and whether one of them stands at a place of a text.
 // Slices of any length and any content may be lent.
+#![tactic(auto)]
+
 ghost use Rattle.std.specs.Prelude.{◌≡◌, map, ◌&&◌, eqb};
 ghost use Rattle.seq.specs.Lists.{same_list};
 ghost use Rattle.seq.specs.Memory.{over};
