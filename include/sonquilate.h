@@ -24,7 +24,7 @@
  *
  * WHICH ENGINE. Where counts are kept: sq_elca and sq_slca, which also hold every count against the lists. Where none are kept,
  * as in small depots, or the words are rare: sq_merge_elca and sq_merge_slca, which find the answers in the tree and the lists
- * alone. On every index that the first two accept, these give the same nodes, own counts and total [P: engines-agree]. They take
+ * alone. On every index that the first two accept, these give the same nodes, own counts and total [P: engines_agree]. They take
  * no counts, and so accept an index whatever counts are kept beside it.
  *
  * THE LENT TEXT, for sq_read and sq_build: bytes, of a profile of XML 1.0 in ASCII.
@@ -51,7 +51,7 @@
  * THE WORDS OF A TEXT, for sq_build. A word is a longest run of ASCII letters and digits in the data of a node, or in an element's
  * name at its first tag. Letters are compared without case. In data comments are dropped, so no<!--x-->rth is one word; and a
  * reference is read as its character, so a&lt;b has the words a and b. In a name - . _ and : part words. End tags and comments
- * have no words. A word stands at the node of its data or of its element. [P: documentWords]
+ * have no words. A word stands at the node of its data or of its element. [P: document_words]
  *
  * THE LENT QUERY, for sq_build: k words, one after the other, in upper or lower case; the same word may stand twice.
  *   words        the bytes of all words, with nothing between them
@@ -62,10 +62,10 @@
  *   which slot   each distinct word has one, in order of first appearance: that of its 32-bit FNV-1a hash modulo the slots, or the
  *                next free one, where slot 0 follows the last. The hash is of its bytes in lower case, comments left out
  * So a word is in the text exactly if a search from the slot of its hash on, slot after slot, meets it before a free slot and
- * before all slots are met. Words with one hash are told apart by their bytes. [P: wordTable]
+ * before all slots are met. Words with one hash are told apart by their bytes. [P: word_table]
  *
  * REPLIES of all calls but sq_read and sq_build. Of the refusals that apply the lowest number is given; a length is asked for
- * where the call takes the slice. [P: checkReply, elcaReply, slcaReply, validReply, mergeElcaReply, mergeSlcaReply, reasonReply]
+ * where the call takes the slice. [P: check_reply, elca_reply, slca_reply, valid_reply, merge_elca_reply, merge_slca_reply, reason_reply]
  *   number      given exactly when                                                             place                  total
  *   SQ_OK       nothing below applies                                                          0                      the answers
  *   SQ_SIZE     n is not from 1 to 65,536, p not from 1 to 8, or k above 8; tags are not       0                      0
@@ -84,7 +84,7 @@
  * take no counts, and never give SQ_COUNT. "The answers" is how many there are.
  *
  * REPLIES of sq_read. SQ_SIZE goes before all others; of SQ_MARKUP and SQ_TREE the one whose byte comes first is given; SQ_ROOM
- * comes last. [P: readReply]
+ * comes last. [P: read_reply]
  *   number      given exactly when                                                             place                  total
  *   SQ_OK       nothing below applies                                                          0                      n
  *   SQ_SIZE     text is longer than 16,777,216 bytes                                           0                      0
@@ -96,7 +96,7 @@
  *   SQ_ROOM     parents, tags, firsts or lasts is shorter than n, or work than 3 * n           0                      n
  *
  * REPLIES of sq_build. SQ_SIZE goes before all others; of SQ_MARKUP and SQ_TREE the one whose byte comes first is given; SQ_ROOM
- * comes last. [P: buildReply]
+ * comes last. [P: build_reply]
  *   number      given exactly when                                                             place                  total
  *   SQ_OK       nothing below applies                                                          0                      n
  *   SQ_SIZE     text is longer than 16,777,216 bytes; k is not from 1 to 8; the first          0                      0
@@ -110,8 +110,8 @@
  *
  * BUFFERS of all calls but sq_read and sq_build. The index is only read. Under SQ_SIZE nothing is touched. Under every other
  * reply the first (k + 2) * n entries of work are 0, or the first 64 of the stack, in every field, and the rest is untouched. out
- * and own are as lent under every refusal; under SQ_OK their first entries are written, and later entries stay. [P: workAfter,
- * stackAfter, elcaOut, elcaOwn, slcaOut, validOut, mergeElcaOut, mergeElcaOwn, mergeSlcaOut]
+ * and own are as lent under every refusal; under SQ_OK their first entries are written, and later entries stay. [P: work_after,
+ * stack_after, elca_out, elca_own, slca_out, valid_out, merge_elca_out, merge_elca_own, merge_slca_out]
  * BUFFERS of sq_read. The text is only read. Under every refusal nothing is touched. Under SQ_OK the first n entries of
  * parents, tags, firsts and lasts are written, the first 3 * n of work are 0, and later entries of all five stay.
  * [P: Reads]
@@ -174,8 +174,8 @@ typedef struct sq_explanation {
 } sq_explanation;
 
 /* The index check alone. q may be above 0.
- * Replies: SQ_SIZE, SQ_TREE, SQ_LIST, SQ_COUNT, in this order, or SQ_OK with total 0. [P: checkReply]
- * Buffers: work as above. [P: workAfter] */
+ * Replies: SQ_SIZE, SQ_TREE, SQ_LIST, SQ_COUNT, in this order, or SQ_OK with total 0. [P: check_reply]
+ * Buffers: work as above. [P: work_after] */
 sq_reply sq_check(const uint32_t *parents, size_t parents_len, const uint32_t *tags, size_t tags_len, uint32_t p, uint32_t q,
                   const uint32_t *ends, size_t ends_len, const uint32_t *occurrences, size_t occurrences_len,
                   const uint32_t *counts, size_t counts_len, uint32_t *work, size_t work_len);
@@ -183,18 +183,18 @@ sq_reply sq_check(const uint32_t *parents, size_t parents_len, const uint32_t *t
 /* ELCA. A node is full if each word occurs under it. Its own count for a word is the number of the word's occurrences under
  * it that are under no full node below it. The answers are the full nodes whose own counts are all 1 or more. q must be 0.
  * Replies: those of sq_check in its order, then SQ_ROOM where out is shorter than the answers or own than p times as many,
- * or SQ_OK. [P: elcaReply]
+ * or SQ_OK. [P: elca_reply]
  * Buffers: under SQ_OK out begins with the nodes, increasing, and own with p own counts for each of them, in word order; the
- * rest of both stays. Under a refusal both are as lent. Work as above. [P: elcaOut, elcaOwn, workAfter] */
+ * rest of both stays. Under a refusal both are as lent. Work as above. [P: elca_out, elca_own, work_after] */
 sq_reply sq_elca(const uint32_t *parents, size_t parents_len, const uint32_t *tags, size_t tags_len, uint32_t p, uint32_t q,
                  const uint32_t *ends, size_t ends_len, const uint32_t *occurrences, size_t occurrences_len,
                  const uint32_t *counts, size_t counts_len, uint32_t *work, size_t work_len, uint32_t *out, size_t out_len,
                  uint32_t *own, size_t own_len);
 
 /* SLCA. The answers are the full nodes with no full node below them. q must be 0.
- * Replies: those of sq_check in its order, then SQ_ROOM where out is shorter than the answers, or SQ_OK. [P: slcaReply]
+ * Replies: those of sq_check in its order, then SQ_ROOM where out is shorter than the answers, or SQ_OK. [P: slca_reply]
  * Buffers: under SQ_OK out begins with the nodes, increasing, and the rest stays. Under a refusal it is as lent. Work as
- * above. [P: slcaOut, workAfter] */
+ * above. [P: slca_out, work_after] */
 sq_reply sq_slca(const uint32_t *parents, size_t parents_len, const uint32_t *tags, size_t tags_len, uint32_t p, uint32_t q,
                  const uint32_t *ends, size_t ends_len, const uint32_t *occurrences, size_t occurrences_len,
                  const uint32_t *counts, size_t counts_len, uint32_t *work, size_t work_len, uint32_t *out, size_t out_len);
@@ -208,9 +208,9 @@ sq_reply sq_slca(const uint32_t *parents, size_t parents_len, const uint32_t *ta
  *   other node of its type, has a sibling with the same tag: where one train has two legs, the single leg of another train
  *   is an entity too. The root, text nodes, and nodes with exactly one child, which is text, are never entities; but where
  *   one of this last kind has a sibling with its tag, this counts for the other nodes of its type.
- * Replies: those of sq_check in its order, then SQ_ROOM where out is shorter than the answers, or SQ_OK. [P: validReply]
+ * Replies: those of sq_check in its order, then SQ_ROOM where out is shorter than the answers, or SQ_OK. [P: valid_reply]
  * Buffers: under SQ_OK out begins with the nodes, increasing, and the rest stays. Under a refusal it is as lent. Work as
- * above. [P: validOut, workAfter] */
+ * above. [P: valid_out, work_after] */
 sq_reply sq_valid(const uint32_t *parents, size_t parents_len, const uint32_t *tags, size_t tags_len, uint32_t p, uint32_t q,
                   const uint32_t *ends, size_t ends_len, const uint32_t *occurrences, size_t occurrences_len,
                   const uint32_t *counts, size_t counts_len, uint32_t *work, size_t work_len, uint32_t *out, size_t out_len);
@@ -218,9 +218,9 @@ sq_reply sq_valid(const uint32_t *parents, size_t parents_len, const uint32_t *t
 /* ELCA without counts: the answers of sq_elca, in the same order and with the same own counts. q must be 0. A word with an
  * empty list gives no answers, and is no refusal.
  * Replies: SQ_SIZE, SQ_TREE, SQ_LIST, in this order, then SQ_ROOM where out is shorter than the answers or own than p times as
- * many, or SQ_OK. [P: mergeElcaReply]
+ * many, or SQ_OK. [P: merge_elca_reply]
  * Buffers: under SQ_OK out begins with the nodes, increasing, and own with p own counts for each of them, in word order; the
- * rest of both stays. Under a refusal both are as lent. The stack as above. [P: mergeElcaOut, mergeElcaOwn, stackAfter] */
+ * rest of both stays. Under a refusal both are as lent. The stack as above. [P: merge_elca_out, merge_elca_own, stack_after] */
 sq_reply sq_merge_elca(const uint32_t *parents, size_t parents_len, const uint32_t *tags, size_t tags_len, uint32_t p,
                        uint32_t q, const uint32_t *ends, size_t ends_len, const uint32_t *occurrences, size_t occurrences_len,
                        sq_entry *stack, size_t stack_len, uint32_t *out, size_t out_len, uint32_t *own, size_t own_len);
@@ -228,27 +228,27 @@ sq_reply sq_merge_elca(const uint32_t *parents, size_t parents_len, const uint32
 /* SLCA without counts: the answers of sq_slca, in the same order. q must be 0. A word with an empty list gives no answers, and
  * is no refusal.
  * Replies: SQ_SIZE, SQ_TREE, SQ_LIST, in this order, then SQ_ROOM where out is shorter than the answers, or SQ_OK.
- * [P: mergeSlcaReply]
+ * [P: merge_slca_reply]
  * Buffers: under SQ_OK out begins with the nodes, increasing, and the rest stays. Under a refusal it is as lent. The stack as
- * above. [P: mergeSlcaOut, stackAfter] */
+ * above. [P: merge_slca_out, stack_after] */
 sq_reply sq_merge_slca(const uint32_t *parents, size_t parents_len, const uint32_t *tags, size_t tags_len, uint32_t p,
                        uint32_t q, const uint32_t *ends, size_t ends_len, const uint32_t *occurrences, size_t occurrences_len,
                        sq_entry *stack, size_t stack_len, uint32_t *out, size_t out_len);
 
 /* Why is this node listed? The reason why sq_elca lists a node, or does not, on the same index. q must be 0. Of each node exactly
- * one of three cases holds, with one word, and it is given [P: toldAfter, one-reason]:
+ * one of three cases holds, with one word, and it is given [P: told_after, one-reason]:
  *   SQ_NOT_FULL    the node is not full: word `word` has no occurrence under it, and each word before it has one
  *   SQ_NOT_LISTED  the node is full; its own count for word `word` is 0, so that every occurrence of this word under it is under
  *                  a full node below it; and its own count for each word before it is 1 or more
- *   SQ_LISTED      sq_elca lists the node [P: listed-exactly]; for each word j below p, occurrences[j] is the lowest of the word's
- *                  occurrences that are the node's own [P: lowestAfter, lowest-right]; from p on they are 0, and so is word
+ *   SQ_LISTED      sq_elca lists the node [P: listed_exactly]; for each word j below p, occurrences[j] is the lowest of the word's
+ *                  occurrences that are the node's own [P: lowest_after, lowest-right]; from p on they are 0, and so is word
  * In the first two cases all occurrences are 0. Words are counted from 0. A word with an empty list is missing under every node,
  * and is no refusal. In a dispatcher's words, of document 01's schedule with a station as word 0 and a zone as word 1:
  *   "node 7 is not full: word 1 does not occur under it"
  *   "node 1 is full, but every occurrence of word 1 under it is under a smaller full node"
  *   "node 0 is listed: its first own word 0 is at node 17, its first own word 1 at node 15"
- * Replies: those of sq_check in its order, then SQ_NODE where node is n or more, or SQ_OK. [P: reasonReply]
- * Buffers: work as above. [P: workAfter] */
+ * Replies: those of sq_check in its order, then SQ_NODE where node is n or more, or SQ_OK. [P: reason_reply]
+ * Buffers: work as above. [P: work_after] */
 sq_explanation sq_reason(const uint32_t *parents, size_t parents_len, const uint32_t *tags, size_t tags_len, uint32_t p,
                          uint32_t q, const uint32_t *ends, size_t ends_len, const uint32_t *occurrences,
                          size_t occurrences_len, const uint32_t *counts, size_t counts_len, uint32_t node, uint32_t *work,
@@ -256,7 +256,7 @@ sq_explanation sq_reason(const uint32_t *parents, size_t parents_len, const uint
 
 /* The reader: from the bytes of a text to its tree, as above. With 65,536 entries in each of parents, tags, firsts and lasts and
  * 196,608 in work it never gives SQ_ROOM.
- * Replies: SQ_SIZE; SQ_MARKUP or SQ_TREE, whichever comes first in the text; SQ_ROOM; or SQ_OK with total n. [P: readReply]
+ * Replies: SQ_SIZE; SQ_MARKUP or SQ_TREE, whichever comes first in the text; SQ_ROOM; or SQ_OK with total n. [P: read_reply]
  * Buffers: under SQ_OK the rows of the tree, and work, as above. Under a refusal all are as lent. [P: Reads] */
 sq_reply sq_read(const uint8_t *text, size_t text_len, uint32_t *parents, size_t parents_len, uint32_t *tags, size_t tags_len,
                  uint32_t *firsts, size_t firsts_len, uint32_t *lasts, size_t lasts_len, uint32_t *work, size_t work_len);
@@ -266,16 +266,16 @@ sq_reply sq_read(const uint8_t *text, size_t text_len, uint32_t *parents, size_t
  *   slots           the table of the words of the text, as above
  *   parents, tags   the tree of the text; firsts and lasts its places, as sq_read gives them
  *   occurrences     for each word of the query, in the query's order, the nodes at which it stands, increasing; none for a word
- *                   that is not in the text, which is no refusal [P: listFor]
- *   ends, counts    where each word's list ends, and all k * n counts, as in the lent index [P: endsFor, countsFor]
+ *                   that is not in the text, which is no refusal [P: list_for]
+ *   ends, counts    where each word's list ends, and all k * n counts, as in the lent index [P: ends_for, counts_for]
  * These lengths never give SQ_ROOM: 65,536 of parents, tags, firsts and lasts, 196,608 of work, k of ends, k * 65,536 of
- * occurrences and counts [P: buildReply]; and text_len / 2 slots, since each word of a text has a byte behind it that is of no
+ * occurrences and counts [P: build_reply]; and text_len / 2 slots, since each word of a text has a byte behind it that is of no
  * word [T]. A build is quick where there are twice as many slots as distinct words, and slow where nearly all get filled.
  * What to lend to a search then: of parents and tags n entries; p = k, q = 0; of ends k, of occurrences ends[k - 1] and of counts
  * k * n entries; at least (k + 2) * n of work, which may be the same; and firsts and lasts say where an answer stands in the text.
  * Such an index is never refused: with n entries in out and k * n in own sq_elca gives SQ_OK. [P: built-accepted]
  * Replies: SQ_SIZE; SQ_MARKUP or SQ_TREE, whichever comes first in the text; SQ_ROOM with total 0; or SQ_OK with total n.
- * [P: buildReply]
+ * [P: build_reply]
  * Buffers: under SQ_OK as said. Under SQ_ROOM every slot is 0, and all else as lent; under another refusal all are as lent.
  * [P: Builds] */
 sq_reply sq_build(const uint8_t *text, size_t text_len, const uint8_t *words, size_t words_len, const uint32_t *word_ends,

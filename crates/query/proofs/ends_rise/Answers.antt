@@ -1,26 +1,13 @@
 -- `query::ends_rise` meets its contract: glue over Testing. Assumes nothing.
 use native.Mathlib.Omega.{arith}
 use Rattle.query.proofs.Testing.{rising-start, rising_step, rising-stop, rising-end}
-use borrow.Author.Rules.{rules}
 use Rattle.query.proofs.ends_rise.Goals as goal
 
 pub loop-j-init : goal.loop-j-init
 loop-j-init c = rising-start _
 
-pub offset_bounds-ends-j : goal.offset_bounds-ends-j
-offset_bounds-ends-j c = omega (arith, c.loop-j-test.true)
-
-pub bounds-ends-j : goal.bounds-ends-j
-bounds-ends-j c = omega (arith, c.loop-j-test.true)
-
 pub returns-then-to-from : goal.returns-then-to-from
 returns-then-to-from c = rising-stop _ _ _ c.loop-j.invariant c.loop-j-test.true c.if-to-from.true
-
-pub overflow_add-j : goal.overflow_add-j
-overflow_add-j c = search rules
-
-pub loop-j-smaller : goal.loop-j-smaller
-loop-j-smaller c = omega (arith, c.loop-j-test.true)
 
 pub loop-j-preserved : goal.loop-j-preserved
 loop-j-preserved c = rising_step _ _ _ c.loop-j.invariant c.loop-j-test.true (omega (arith, c.if-to-from.false))

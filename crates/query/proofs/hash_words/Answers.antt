@@ -1,11 +1,7 @@
 -- `query::hash_words` meets its contract: glue over Hashing. Assumes nothing.
 use mathlib.Core.Path.{sym, ◌∙◌}
 use Rattle.query.proofs.Hashing.{no_query, no_room_lem, with-room}
-use borrow.Author.Rules.{rules}
 use Rattle.query.proofs.hash_words.Goals as goal
-
-pub is_query-requires : goal.is_query-requires
-is_query-requires c = search rules
 
 pub returns-then-not-is_query : goal.returns-then-not-is_query
 returns-then-not-is_query c = no_query _ _ (sym c.is_query.ensures ∙ c.if-not-is_query.true)

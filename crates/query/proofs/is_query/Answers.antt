@@ -2,7 +2,6 @@
 use mathlib.Core.Path.{sym, ◌∙◌}
 use native.Mathlib.Omega.{arith}
 use Rattle.query.proofs.Testing.{size_none, size-many, size-falls, size-last, size-letters}
-use borrow.Author.Rules.{rules}
 use Rattle.query.proofs.is_query.Goals as goal
 
 pub returns-then-k-eq0 : goal.returns-then-k-eq0
@@ -11,29 +10,11 @@ returns-then-k-eq0 c = size_none _ c.if-k-eq0.true
 pub returns-then-k-gt8 : goal.returns-then-k-gt8
 returns-then-k-gt8 c = size-many _ c.if-k-gt8.true
 
-pub ends_rise-requires : goal.ends_rise-requires
-ends_rise-requires c = search rules
-
 pub returns-then-not-ends_rise : goal.returns-then-not-ends_rise
 returns-then-not-ends_rise c = size-falls _ (sym c.ends_rise.ensures ∙ c.if-not-ends_rise.true)
 
-pub overflow_sub-k : goal.overflow_sub-k
-overflow_sub-k c = search rules
-
-pub offset_bounds-ends-k : goal.offset_bounds-ends-k
-offset_bounds-ends-k c = search rules
-
-pub bounds-ends-k : goal.bounds-ends-k
-bounds-ends-k c = search rules
-
-pub widen-requires : goal.widen-requires
-widen-requires c = search rules
-
 pub returns-then-widen-words : goal.returns-then-widen-words
 returns-then-widen-words c = size-last _ (λ e. c.if-widen-words.true (c.widen.ensures ∙ e)) c.if-k-eq0.false
-
-pub only_letters-requires : goal.only_letters-requires
-only_letters-requires c = search rules
 
 pub returns : goal.returns
 returns c = c.only_letters.ensures ∙ size-letters _ c.if-k-eq0.false (omega (arith, c.if-k-gt8.false)) (sym c.ends_rise.ensures ∙ c.if-not-ends_rise.false) (sym c.widen.ensures ∙ c.if-widen-words.false)

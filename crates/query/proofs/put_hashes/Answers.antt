@@ -2,20 +2,10 @@
 use native.Mathlib.Omega.{arith}
 use Rattle.query.proofs.Kept.{query-kept, part-rises, part-within}
 use Rattle.query.proofs.Hashing.{hashing_start, slot-fits, hashing_step, hashing_end}
-use borrow.Author.Rules.{rules}
 use Rattle.query.proofs.put_hashes.Goals as goal
 
 pub loop-j-init : goal.loop-j-init
 loop-j-init c = hashing_start _ _
-
-pub offset_bounds-ends-j : goal.offset_bounds-ends-j
-offset_bounds-ends-j c = search rules
-
-pub bounds-ends-j : goal.bounds-ends-j
-bounds-ends-j c = search rules
-
-pub widen-to-requires : goal.widen-to-requires
-widen-to-requires c = search rules
 
 pub slice_bounds-hash_of-count : goal.slice_bounds-hash_of-count
 slice_bounds-hash_of-count c = part-rises _ (query-kept _ c.requires.ok) _ _ _ c.loop-j-test.true c.loop-j.invariant.begins c.widen-to.ensures
@@ -26,20 +16,11 @@ slice_bounds-hash_of-start c = part-rises _ (query-kept _ c.requires.ok) _ _ _ c
 pub slice_bounds-hash_of-end : goal.slice_bounds-hash_of-end
 slice_bounds-hash_of-end c = part-within _ (query-kept _ c.requires.ok) _ _ _ c.loop-j-test.true c.loop-j.invariant.begins c.widen-to.ensures
 
-pub hash_of-requires : goal.hash_of-requires
-hash_of-requires c = search rules
-
 pub offset_bounds-hashes-j : goal.offset_bounds-hashes-j
 offset_bounds-hashes-j c = omega (arith, slot-fits _ _ _ _ _ c.requires c.loop-j.invariant c.loop-j-test.true, c.loop-j.invariant.filled.long)
 
 pub bounds-hashes-j : goal.bounds-hashes-j
 bounds-hashes-j c = slot-fits _ _ _ _ _ c.requires c.loop-j.invariant c.loop-j-test.true
-
-pub overflow_add-j : goal.overflow_add-j
-overflow_add-j c = search rules
-
-pub loop-j-smaller : goal.loop-j-smaller
-loop-j-smaller c = omega (arith, c.loop-j-test.true)
 
 pub loop-j-preserved : goal.loop-j-preserved
 loop-j-preserved c = hashing_step _ _ _ _ _ c.requires c.loop-j.invariant c.loop-j-test.true _ _ c.widen-to.ensures c.hash_of.ensures
