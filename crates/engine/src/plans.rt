@@ -6,7 +6,7 @@ use crate::steps::State;
 use index::Reply;
 
 // The reply so far, the state in which the next pass begins, and how many entries of the stack are zeroed at the end.
-#[derive(Drop)]
+#[derive(Clone, Copy)]
 pub(crate) struct Plan {
     pub reply: Reply,
     pub state: State,

@@ -22,7 +22,7 @@ pub(crate) struct State {
     pub fill: bool,
 }
 
-#[derive(Drop)]
+#[derive(Clone, Copy)]
 pub(crate) struct Step {
     pub state: State,
     pub top: Entry,

@@ -12,7 +12,7 @@ ghost use Rattle.inplace.specs.Hashed.{hashed_at};
 ghost use Rattle.inplace.specs.Inner.{Lettered};
 
 // The hash of a word, and the place behind its last letter or digit.
-#[derive(Drop)]
+#[derive(Clone, Copy)]
 pub struct Hashed {
     pub hash: u32,
     pub end: usize,

@@ -4,7 +4,7 @@ ghost use Rattle.std.specs.Prelude.{◌≡◌, ◌≤◌};
 ghost use Rattle.judge.specs.Inner.{ended_with, broken_at, over_at, goes_on, is_full, is_closed, passed, space_turn, DataPre, data_turn, TagPre, tag_turn, ClosePre, close_turn, BarePre, Bare, TurnPre, Told, turn_of};
 
 // Between two pieces: the open elements, the nodes met, whether the data since the last tag makes a node, and whether the root was met.
-#[derive(Drop)]
+#[derive(Clone, Copy)]
 pub(crate) struct State {
     pub depth: usize,
     pub met: u32,
@@ -13,7 +13,7 @@ pub(crate) struct State {
 }
 
 // Halted with a reply, or gone on to a state.
-#[derive(Drop)]
+#[derive(Clone, Copy)]
 pub(crate) struct Turn {
     pub halted: bool,
     pub refusal: u32,

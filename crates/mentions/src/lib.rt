@@ -10,7 +10,7 @@ ghost use Rattle.mentions.specs.Inner.{quiet, Reached, MarkupPre, PassPre, Passe
 
 // Where the next word starts, if there is one: the place of its first byte, whether it stands in a tag, whether the data makes a node, and how many nodes
 // on it is. All is 0 or false where there is none.
-#[derive(Drop)]
+#[derive(Clone, Copy)]
 pub struct Seen {
     pub found: bool,
     pub place: usize,
@@ -20,7 +20,7 @@ pub struct Seen {
 }
 
 // Where the pass is.
-#[derive(Drop)]
+#[derive(Clone, Copy)]
 struct Pass {
     pub at: usize,
     pub tag: bool,

@@ -7,7 +7,7 @@ ghost use Rattle.pieces.specs.Reading.{begun, place_after, Gives};
 use markup::Piece;
 
 // The text, and the place at which the next piece begins.
-#[derive(Drop)]
+#[derive(Clone, Copy)]
 pub struct Reader<'a> {
     pub text: &'a [u8],
     pub at: usize,

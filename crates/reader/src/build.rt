@@ -7,7 +7,7 @@ ghost use Rattle.reader.specs.Inner.{rows, store, path_in, blank, data_state, No
 
 // Between two pieces: how many elements are open; the nodes written; and the data since the last tag: whether there is any, the places of its first and its
 // last byte, and whether it makes a node.
-#[derive(Drop)]
+#[derive(Clone, Copy)]
 pub(crate) struct State {
     pub depth: usize,
     pub met: usize,

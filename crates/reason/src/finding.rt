@@ -5,7 +5,7 @@ ghost use Rattle.reason.specs.Inner.{lowest_by, FlaggedPre, FindPre, Finds};
 use crate::Reason;
 
 // What is found on a checked index: the reason, and where it is `Listed` the lowest own occurrence of each word, else zeros.
-#[derive(Drop)]
+#[derive(Clone, Copy)]
 pub(crate) struct Why {
     pub reason: Reason,
     pub occurrences: [u32; 8],

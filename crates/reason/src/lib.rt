@@ -25,7 +25,7 @@ pub const LISTED: u32 = 3;
 //   NotFull(j)     word j has no occurrence under the node, and each word before it has one
 //   NotListed(j)   the node is full; its own count for word j is 0, and that for each word before it is not
 //   Listed         the node is full, and no own count is 0
-#[derive(Drop)]
+#[derive(Clone, Copy)]
 pub enum Reason {
     NotFull(u32),
     NotListed(u32),
@@ -33,7 +33,7 @@ pub enum Reason {
 }
 
 // What `explain` gives: the reply, the reason, and where the node is listed the lowest of its own occurrences of each word. What is not said is 0.
-#[derive(Drop)]
+#[derive(Clone, Copy)]
 pub struct Explanation {
     pub reply: Reply,
     pub reason: Reason,
@@ -42,7 +42,7 @@ pub struct Explanation {
 
 // The same in numbers.
 #[repr(C)]
-#[derive(Drop)]
+#[derive(Clone, Copy)]
 pub struct Numbers {
     pub reply: Reply,
     pub reason: u32,

@@ -12,7 +12,7 @@ use header::{count, header_ok};
 use text::{field_end, line_end, number, put_word};
 
 // A table: p positive and q negative words, n nodes.
-#[derive(Drop)]
+#[derive(Clone, Copy)]
 pub struct Shape {
     pub p: usize,
     pub q: usize,
@@ -20,21 +20,21 @@ pub struct Shape {
 }
 
 // What reading a table gives: the place of INPUT, or the table.
-#[derive(Drop)]
+#[derive(Clone, Copy)]
 pub enum Read {
     Broken(u32),
     Taken(Shape),
 }
 
 // Whether a node line is good, and the next place in the cells.
-#[derive(Drop)]
+#[derive(Clone, Copy)]
 struct NodeLine {
     pub good: bool,
     pub next: usize,
 }
 
 // How many node lines are good, and whether these are all.
-#[derive(Drop)]
+#[derive(Clone, Copy)]
 struct NodeLines {
     pub good: bool,
     pub n: usize,
