@@ -1,6 +1,8 @@
 // The output of the table program (01, "The table program"): lines of search name, refusal number, place and node.
 // Each function writes to the front of a lent buffer, behind what is there up to a place, and returns the next place; what does not fit is not written.
 // `put_pair` runs ELCA and SLCA on a lent index and writes their lines, `put_valid` valid SLCA; `put_bare` writes one line without a node.
+#![tactic(auto)]
+
 mod lines;
 
 ghost use Rattle.std.specs.Prelude.{[]};

@@ -1,4 +1,6 @@
 // The table program on slices (01, "The table program"): one entry point, `answer_table`, from the bytes of a table to the bytes of its answers.
+#![tactic(auto)]
+
 mod lend;
 mod search;
 
