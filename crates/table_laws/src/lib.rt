@@ -1,1 +1,3 @@
+#![tactic(auto)]
+
 // The table program: definitions and theorems alone.

@@ -1,5 +1,7 @@
 // The table program between reading and writing: one entry point, `answer_whole`, on whole arrays. How long they are is part of their types, so no program can
 // lend an input that is cut before it is known to be too long, nor an output that is cut at all.
+#![tactic(auto)]
+
 ghost use Rattle.std.specs.Prelude.{take};
 ghost use Rattle.whole.specs.Promises.{Whole};
 
