@@ -1,8 +1,11 @@
-# Sourced by the scripts that compile C for the library and run it. The library is for x86-64: on an Arm machine a program
-# runs under the kit's emulator, so its time says nothing there.
-kit=$(cd "$(dirname "$(rt doc)")/.." && pwd)
-tools=$kit/on/$(uname -m)/toolchain
-link=$kit/on/$(uname -m)/bin/rattle-link
+# Sourced by the scripts that compile C for the library and run it. The library and today's kit are for x86-64 alone.
+if [ "$(uname -m)" != x86_64 ]; then
+    echo "$0: the kit of Rattle, which builds and runs the library, is for x86-64, and this machine is $(uname -m)" >&2
+    exit 1
+fi
+kit=$(dirname "$(rt doc)")
+tools=$kit/toolchain
+link=$kit/bin/rattle-link
 
 # build PROGRAM FILE.c...: with the kit's clang, over the library of `make lib`; each function at the begin of a line of the cache, as in the library
 build() {
@@ -20,7 +23,5 @@ build() {
 
 # run PROGRAM [WORD...]: with the kit's loader and C library
 run() {
-    local emulator=$tools/bin/qemu-x86_64
-    [ -x "$emulator" ] || emulator=
-    ${emulator:+"$emulator"} "$tools/lib/ld-linux-x86-64.so.2" --library-path "$tools/lib" "$@"
+    "$tools/lib/ld-linux-x86-64.so.2" --library-path "$tools/lib" "$@"
 }

@@ -1,5 +1,5 @@
-// The C interface: each function is one entry of a crate below it, under the name and with the parameters that include/sonquilate.h declares.
-// A slice is a pointer and then a length. What a function promises is what the function that it calls promises.
+// The C interface: each function is one entry of a crate below it, under the name and with the parameters that include/sonquilate.h declares; `sonquilate_c` exports them.
+// In C a slice is a pointer and then a length. What a function promises is what the function that it calls promises.
 ghost use Rattle.index.specs.Promises.{lent, Checked};
 ghost use Rattle.slca.specs.Promises.{SlcaSearched};
 ghost use Rattle.elca.specs.Promises.{ElcaSearched};
@@ -18,8 +18,7 @@ use index::Reply;
 use reason::Numbers;
 
 // The index check alone.
-#[unsafe(no_mangle)]
-pub extern "C" fn sq_check(
+pub fn sq_check(
     parents: &[u32],
     tags: &[u32],
     p: u32,
@@ -36,8 +35,7 @@ pub extern "C" fn sq_check(
 }
 
 // ELCA, with own counts.
-#[unsafe(no_mangle)]
-pub extern "C" fn sq_elca(
+pub fn sq_elca(
     parents: &[u32],
     tags: &[u32],
     p: u32,
@@ -67,8 +65,7 @@ pub extern "C" fn sq_elca(
 }
 
 // SLCA.
-#[unsafe(no_mangle)]
-pub extern "C" fn sq_slca(
+pub fn sq_slca(
     parents: &[u32],
     tags: &[u32],
     p: u32,
@@ -86,8 +83,7 @@ pub extern "C" fn sq_slca(
 }
 
 // Valid SLCA, the search with NOT.
-#[unsafe(no_mangle)]
-pub extern "C" fn sq_valid(
+pub fn sq_valid(
     parents: &[u32],
     tags: &[u32],
     p: u32,
@@ -105,8 +101,7 @@ pub extern "C" fn sq_valid(
 }
 
 // ELCA without an index's counts, with own counts.
-#[unsafe(no_mangle)]
-pub extern "C" fn sq_merge_elca(
+pub fn sq_merge_elca(
     parents: &[u32],
     tags: &[u32],
     p: u32,
@@ -124,8 +119,7 @@ pub extern "C" fn sq_merge_elca(
 }
 
 // SLCA without an index's counts.
-#[unsafe(no_mangle)]
-pub extern "C" fn sq_merge_slca(
+pub fn sq_merge_slca(
     parents: &[u32],
     tags: &[u32],
     p: u32,
@@ -142,8 +136,7 @@ pub extern "C" fn sq_merge_slca(
 }
 
 // Why a node is listed under ELCA, or is not.
-#[unsafe(no_mangle)]
-pub extern "C" fn sq_reason(
+pub fn sq_reason(
     parents: &[u32],
     tags: &[u32],
     p: u32,
@@ -162,8 +155,7 @@ pub extern "C" fn sq_reason(
 }
 
 // XML text into parents, tags, and each node's first and last place.
-#[unsafe(no_mangle)]
-pub extern "C" fn sq_read(
+pub fn sq_read(
     text: &[u8],
     parents: &mut [u32],
     tags: &mut [u32],
@@ -179,8 +171,7 @@ pub extern "C" fn sq_read(
 }
 
 // XML text and the words of a query into the table of the text's words, the tree, and for each word of the query its list, its end and its counts.
-#[unsafe(no_mangle)]
-pub extern "C" fn sq_build(
+pub fn sq_build(
     text: &[u8],
     words: &[u8],
     word_ends: &[u32],

@@ -1,0 +1,218 @@
+// The exports of the C interface: each hands its arguments to the function of the library `sonquilate` that has its name, and promises what that one does. A crate is a
+// library or the archive that C links, not both: the other crates stand on `sonquilate`, and C links this one. include/sonquilate.h declares each.
+#![tactic(auto)]
+
+ghost use Rattle.index.specs.Promises.{lent, Checked};
+ghost use Rattle.slca.specs.Promises.{SlcaSearched};
+ghost use Rattle.elca.specs.Promises.{ElcaSearched};
+ghost use Rattle.valid.specs.Promises.{ValidSearched};
+ghost use Rattle.depot.specs.Depot.{depot};
+ghost use Rattle.merge.specs.Merge.{MergedElca, MergedSlca};
+ghost use Rattle.reason.specs.Promises.{ExplainedInNumbers};
+ghost use Rattle.reader.specs.Read.{Reads};
+ghost use Rattle.reader.specs.Read as read;
+ghost use Rattle.query.specs.Query.{query};
+ghost use Rattle.build.specs.Build.{Builds};
+ghost use Rattle.build.specs.Build as built;
+
+use engine::Entry;
+use index::Reply;
+use reason::Numbers;
+
+// The index check alone.
+#[unsafe(no_mangle)]
+pub extern "C" fn sq_check(
+    parents: &[u32],
+    tags: &[u32],
+    p: u32,
+    q: u32,
+    ends: &[u32],
+    occurrences: &[u32],
+    counts: &[u32],
+    work: &mut [u32],
+) -> Reply
+    ensures { Checked (lent parents.now tags.now p q ends.now occurrences.now
+        counts.now) work.old result work.new }
+{
+    sonquilate::sq_check(parents, tags, p, q, ends, occurrences, counts, work)
+}
+
+// ELCA, with own counts.
+#[unsafe(no_mangle)]
+pub extern "C" fn sq_elca(
+    parents: &[u32],
+    tags: &[u32],
+    p: u32,
+    q: u32,
+    ends: &[u32],
+    occurrences: &[u32],
+    counts: &[u32],
+    work: &mut [u32],
+    out: &mut [u32],
+    own: &mut [u32],
+) -> Reply
+    ensures { ElcaSearched (lent parents.now tags.now p q ends.now occurrences.now
+        counts.now) work.old out.old own.old result work.new out.new own.new }
+{
+    sonquilate::sq_elca(
+        parents,
+        tags,
+        p,
+        q,
+        ends,
+        occurrences,
+        counts,
+        work,
+        out,
+        own,
+    )
+}
+
+// SLCA.
+#[unsafe(no_mangle)]
+pub extern "C" fn sq_slca(
+    parents: &[u32],
+    tags: &[u32],
+    p: u32,
+    q: u32,
+    ends: &[u32],
+    occurrences: &[u32],
+    counts: &[u32],
+    work: &mut [u32],
+    out: &mut [u32],
+) -> Reply
+    ensures { SlcaSearched (lent parents.now tags.now p q ends.now occurrences.now
+        counts.now) work.old out.old result work.new out.new }
+{
+    sonquilate::sq_slca(parents, tags, p, q, ends, occurrences, counts, work, out)
+}
+
+// Valid SLCA, the search with NOT.
+#[unsafe(no_mangle)]
+pub extern "C" fn sq_valid(
+    parents: &[u32],
+    tags: &[u32],
+    p: u32,
+    q: u32,
+    ends: &[u32],
+    occurrences: &[u32],
+    counts: &[u32],
+    work: &mut [u32],
+    out: &mut [u32],
+) -> Reply
+    ensures { ValidSearched (lent parents.now tags.now p q ends.now occurrences.now
+        counts.now) work.old out.old result work.new out.new }
+{
+    sonquilate::sq_valid(parents, tags, p, q, ends, occurrences, counts, work, out)
+}
+
+// ELCA without an index's counts, with own counts.
+#[unsafe(no_mangle)]
+pub extern "C" fn sq_merge_elca(
+    parents: &[u32],
+    tags: &[u32],
+    p: u32,
+    q: u32,
+    ends: &[u32],
+    occurrences: &[u32],
+    stack: &mut [Entry],
+    out: &mut [u32],
+    own: &mut [u32],
+) -> Reply
+    ensures { MergedElca (depot parents.now tags.now p q ends.now occurrences.now)
+        stack.old out.old own.old result stack.new out.new own.new }
+{
+    sonquilate::sq_merge_elca(parents, tags, p, q, ends, occurrences, stack, out, own)
+}
+
+// SLCA without an index's counts.
+#[unsafe(no_mangle)]
+pub extern "C" fn sq_merge_slca(
+    parents: &[u32],
+    tags: &[u32],
+    p: u32,
+    q: u32,
+    ends: &[u32],
+    occurrences: &[u32],
+    stack: &mut [Entry],
+    out: &mut [u32],
+) -> Reply
+    ensures { MergedSlca (depot parents.now tags.now p q ends.now occurrences.now)
+        stack.old out.old result stack.new out.new }
+{
+    sonquilate::sq_merge_slca(parents, tags, p, q, ends, occurrences, stack, out)
+}
+
+// Why a node is listed under ELCA, or is not.
+#[unsafe(no_mangle)]
+pub extern "C" fn sq_reason(
+    parents: &[u32],
+    tags: &[u32],
+    p: u32,
+    q: u32,
+    ends: &[u32],
+    occurrences: &[u32],
+    counts: &[u32],
+    node: u32,
+    work: &mut [u32],
+) -> Numbers
+    ensures { ExplainedInNumbers (lent parents.now tags.now p q ends.now occurrences.now
+        counts.now) node work.old result work.new }
+{
+    sonquilate::sq_reason(parents, tags, p, q, ends, occurrences, counts, node, work)
+}
+
+// XML text into parents, tags, and each node's first and last place.
+#[unsafe(no_mangle)]
+pub extern "C" fn sq_read(
+    text: &[u8],
+    parents: &mut [u32],
+    tags: &mut [u32],
+    firsts: &mut [u32],
+    lasts: &mut [u32],
+    work: &mut [u32],
+) -> Reply
+    ensures { Reads text.now
+        (read.lent parents.old tags.old firsts.old lasts.old work.old) result
+        (read.lent parents.new tags.new firsts.new lasts.new work.new) }
+{
+    sonquilate::sq_read(text, parents, tags, firsts, lasts, work)
+}
+
+// XML text and the words of a query into the table of the text's words, the tree, and for each word of the query its list, its end and its counts.
+#[unsafe(no_mangle)]
+pub extern "C" fn sq_build(
+    text: &[u8],
+    words: &[u8],
+    word_ends: &[u32],
+    slots: &mut [u32],
+    parents: &mut [u32],
+    tags: &mut [u32],
+    firsts: &mut [u32],
+    lasts: &mut [u32],
+    ends: &mut [u32],
+    occurrences: &mut [u32],
+    counts: &mut [u32],
+    work: &mut [u32],
+) -> Reply
+    ensures { Builds text.now (query words.now word_ends.now)
+        (built.lent slots.old parents.old tags.old firsts.old lasts.old ends.old
+        occurrences.old counts.old work.old) result
+        (built.lent slots.new parents.new tags.new firsts.new lasts.new ends.new
+        occurrences.new counts.new work.new) }
+{
+    sonquilate::sq_build(
+        text,
+        words,
+        word_ends,
+        slots,
+        parents,
+        tags,
+        firsts,
+        lasts,
+        ends,
+        occurrences,
+        counts,
+        work,
+    )
+}
