@@ -70,7 +70,7 @@ module _ (T : List ℕ) (Q : Query) (s : Sizes) (w : List ℕ) where
           reply =
               unfold plan_reply in
               e ∙ sym (cond-true (query_ok Q) ok _ _ ∙ cond-false (eqb (judge_reply T).refusal accepted) (ne_eqb (judge_reply T).refusal accepted λ z. n (ap (λ (r : Reply). r.refusal) e ∙ z)) _ _);
-          slots = slots_kept T w r n λ z. judged.no_room T (sym (ap (λ (r : Reply). r.refusal) e) ∙ z);
+          slots = slots_kept T w r n λ z. judged.no_room_lem T (sym (ap (λ (r : Reply). r.refusal) e) ∙ z);
           total = total-none r _ n;
         }
 

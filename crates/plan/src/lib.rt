@@ -1,5 +1,7 @@
 // What a call that builds an index replies (02, Q-5), found in one pass over the text that writes to the table of its words alone.
 // One entry point, `plan`: SIZE, then MARKUP or TREE, whichever comes first in the text, then ROOM. Slices of any length and any content may be lent.
+#![tactic(auto)]
+
 mod gather;
 
 ghost use Rattle.std.specs.Prelude.{◌≡◌};
