@@ -1,5 +1,7 @@
 // An index built from a text and the words of a query (02, Q-5): the table of the text's words, the tree, and for each word of the query its list, its end and its counts.
 // One entry point, `build`: SIZE, then MARKUP or TREE, whichever comes first in the text, then ROOM. Slices of any length and any content may be lent.
+#![tactic(auto)]
+
 mod flags;
 mod lists;
 

@@ -5,7 +5,7 @@ ghost use Rattle.query.specs.Query.{query};
 ghost use Rattle.plan.specs.Inner.{NewPre, is_new, TallyPre, Tallied, GatherPre, WordsPre, Gathers};
 
 // Whether the distinct words fit the table; and if so, how many entries the lists have together.
-#[derive(Drop)]
+#[derive(Clone, Copy)]
 pub(crate) struct Gathered {
     pub fits: bool,
     pub total: usize,

@@ -10,7 +10,7 @@ ghost use Rattle.plan.specs.Plan.{Plans};
 ghost use Rattle.plan.specs.Inner.{roomy, RoomPre, NoRoom};
 
 // How many entries are lent of each slice that is to be written, but for the table.
-#[derive(Drop)]
+#[derive(Clone, Copy)]
 pub struct Sizes {
     pub parents: usize,
     pub tags: usize,
@@ -23,7 +23,7 @@ pub struct Sizes {
 }
 
 // The call's reply; and how many entries the lists have together where it is accepted, else 0.
-#[derive(Drop)]
+#[derive(Clone, Copy)]
 pub struct Planned {
     pub reply: index::Reply,
     pub total: usize,
