@@ -1,5 +1,7 @@
 // The C interface: each function is one entry of a crate below it, under the name and with the parameters that include/sonquilate.h declares; `sonquilate_c` exports them.
 // In C a slice is a pointer and then a length. What a function promises is what the function that it calls promises.
+#![tactic(auto)]
+
 ghost use Rattle.index.specs.Promises.{lent, Checked};
 ghost use Rattle.slca.specs.Promises.{SlcaSearched};
 ghost use Rattle.elca.specs.Promises.{ElcaSearched};
