@@ -3,21 +3,11 @@ use mathlib.Core.Path.{sym, ◌∙◌}
 use native.Mathlib.Omega.{arith}
 use Rattle.query.proofs.Kept.{query-kept, part-rises, part-within}
 use Rattle.build.proofs.Rows.{row-flags-start, flag-fits, hit-is, row-flags-hit, row-flags-not, row-flags-end, row_small}
-use borrow.Author.Rules.{rules}
 use Rattle.build.proofs.flags.flag.Goals as goal
 use Rattle.build.proofs.flags.flag.Goals.{then-is_asked, else-is_asked}
 
 pub loop-j-init : goal.loop-j-init
 loop-j-init c = row-flags-start _ _ _ _ _ _ c.requires.long
-
-pub offset_bounds-ends-j : goal.offset_bounds-ends-j
-offset_bounds-ends-j c = search rules
-
-pub bounds-ends-j : goal.bounds-ends-j
-bounds-ends-j c = search rules
-
-pub widen-to-requires : goal.widen-to-requires
-widen-to-requires c = search rules
 
 pub slice_bounds-is_asked-count : goal.slice_bounds-is_asked-count
 slice_bounds-is_asked-count c = part-rises _ (query-kept _ c.requires.ok) _ _ _ c.loop-j-test.true c.loop-j.invariant.begins c.widen-to.ensures
@@ -27,9 +17,6 @@ slice_bounds-is_asked-start c = part-rises _ (query-kept _ c.requires.ok) _ _ _ 
 
 pub slice_bounds-is_asked-end : goal.slice_bounds-is_asked-end
 slice_bounds-is_asked-end c = part-within _ (query-kept _ c.requires.ok) _ _ _ c.loop-j-test.true c.loop-j.invariant.begins c.widen-to.ensures
-
-pub offset_bounds-hashes-j : goal.offset_bounds-hashes-j
-offset_bounds-hashes-j c = search rules
 
 pub bounds-hashes-j : goal.bounds-hashes-j
 bounds-hashes-j c = omega (arith, c.loop-j-test.true, (query-kept _ c.requires.ok).few, c.requires.hashes.long)
@@ -45,9 +32,6 @@ bounds-counts-row c = flag-fits _ _ _ _ _ _ _ _ _ _ (query-kept _ c.requires.ok)
 
 pub overflow_add-row : goal.overflow_add-row
 overflow_add-row c = omega (arith, row_small _ _ _ _ _ _ _ _ _ _ (query-kept _ c.requires.ok) c.loop-j.invariant c.requires.few)
-
-pub overflow_add-j : goal.overflow_add-j
-overflow_add-j c = search rules
 
 pub loop-j-smaller : goal.loop-j-smaller
 loop-j-smaller c = omega (arith, c.loop-j-test.true)

@@ -2,17 +2,7 @@
 use mathlib.Core.Path.{refl, ◌∙◌}
 use Rattle.query.proofs.Hashing.{hashes-of}
 use Rattle.plan.proofs.Passing.{cleared-blank, cleared-long}
-use borrow.Author.Rules.{rules}
 use Rattle.build.proofs.flags.flag_all.Goals as goal
-
-pub slice_bounds-hash_words-end : goal.slice_bounds-hash_words-end
-slice_bounds-hash_words-end c = search rules
-
-pub clear-requires : goal.clear-requires
-clear-requires c = search rules
-
-pub slice_bounds-flag_words-end : goal.slice_bounds-flag_words-end
-slice_bounds-flag_words-end c = search rules
 
 pub flag_words-requires : goal.flag_words-requires
 flag_words-requires c = record {

@@ -1,23 +1,16 @@
 -- `build::lists::sum_row` meets its contract: glue over Sums. Assumes nothing.
 use native.Mathlib.Omega.{arith}
 use Rattle.build.proofs.Sums.{row-start, up_fits, up_small, node-fits, sum_fits, row_step, row-end}
-use borrow.Author.Rules.{rules}
 use Rattle.build.proofs.lists.sum_row.Goals as goal
 
 pub loop-i-init : goal.loop-i-init
 loop-i-init c = row-start _ _ c.requires
-
-pub overflow_sub-i : goal.overflow_sub-i
-overflow_sub-i c = search rules
 
 pub offset_bounds-parents-i : goal.offset_bounds-parents-i
 offset_bounds-parents-i c = omega (arith, c.loop-i.invariant.within, c.requires.few)
 
 pub bounds-parents-i : goal.bounds-parents-i
 bounds-parents-i c = omega (arith, c.loop-i.invariant.within, c.loop-i-test.true)
-
-pub widen-up-requires : goal.widen-up-requires
-widen-up-requires c = search rules
 
 pub offset_bounds-row-up : goal.offset_bounds-row-up
 offset_bounds-row-up c = omega (arith, up_small _ _ _ _ _ c.requires (omega (arith, c.loop-i-test.true)) c.loop-i.invariant (omega (arith, c.loop-i-test.true)) _ c.widen-up.ensures)

@@ -1,7 +1,6 @@
 -- `build::lists::sum_rows` meets its contract: glue over Sums. Assumes nothing.
 use native.Mathlib.Omega.{arith}
 use Rattle.build.proofs.Sums.{all-sums-start, row_fits, row_low, row-pre, all-sums-step, all-sums-end}
-use borrow.Author.Rules.{rules}
 use Rattle.build.proofs.lists.sum_rows.Goals as goal
 
 pub loop-j-init : goal.loop-j-init
@@ -18,9 +17,6 @@ slice_bounds-sum_row-end c = row_fits _ _ _ _ _ _ c.requires c.loop-j.invariant 
 
 pub sum_row-requires : goal.sum_row-requires
 sum_row-requires c = row-pre _ _ _ _ _ _ c.requires c.loop-j.invariant c.loop-j-test.true
-
-pub overflow_add-j : goal.overflow_add-j
-overflow_add-j c = search rules
 
 pub loop-j-smaller : goal.loop-j-smaller
 loop-j-smaller c = omega (arith, c.loop-j-test.true)

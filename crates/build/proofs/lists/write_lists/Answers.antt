@@ -2,7 +2,6 @@
 use mathlib.Core.Path.{refl}
 use native.Mathlib.Omega.{arith}
 use Rattle.build.proofs.Written.{writing_start, row_fits, row_low, at_low, at-fits, total-is, next_low, writing_step, writing-end}
-use borrow.Author.Rules.{rules}
 use Rattle.build.proofs.lists.write_lists.Goals as goal
 
 pub loop-j-init : goal.loop-j-init
@@ -26,29 +25,14 @@ slice_bounds-list_flagged-count-in-loop-j c = at-fits _ _ _ _ _ _ _ _ _ c.requir
 pub slice_bounds-list_flagged-start-in-loop-j : goal.slice_bounds-list_flagged-start-in-loop-j
 slice_bounds-list_flagged-start-in-loop-j c = at-fits _ _ _ _ _ _ _ _ _ c.requires c.loop-j.invariant c.loop-j-test.true
 
-pub slice_bounds-list_flagged-end-in-loop-j : goal.slice_bounds-list_flagged-end-in-loop-j
-slice_bounds-list_flagged-end-in-loop-j c = search rules
-
-pub list_flagged-r-requires : goal.list_flagged-r-requires
-list_flagged-r-requires c = search rules
-
-pub widen-at-requires : goal.widen-at-requires
-widen-at-requires c = search rules
-
 pub overflow_add-at : goal.overflow_add-at
 overflow_add-at c = omega (arith, c.widen-at.ensures, total-is _ _ _ _ _ _ _ _ _ c.requires c.loop-j.invariant c.loop-j-test.true _ _ c.list_flagged-r.ensures, next_low _ _ _ _ _ _ _ _ _ c.requires c.loop-j.invariant c.loop-j-test.true _ _ c.list_flagged-r.ensures)
 
 pub overflow_cast-ends : goal.overflow_cast-ends
 overflow_cast-ends c = omega (arith, c.widen-at.ensures, total-is _ _ _ _ _ _ _ _ _ c.requires c.loop-j.invariant c.loop-j-test.true _ _ c.list_flagged-r.ensures, next_low _ _ _ _ _ _ _ _ _ c.requires c.loop-j.invariant c.loop-j-test.true _ _ c.list_flagged-r.ensures)
 
-pub offset_bounds-ends-j : goal.offset_bounds-ends-j
-offset_bounds-ends-j c = search rules
-
 pub bounds-ends-j : goal.bounds-ends-j
 bounds-ends-j c = omega (arith, c.loop-j-test.true)
-
-pub overflow_add-j : goal.overflow_add-j
-overflow_add-j c = search rules
 
 pub loop-j-smaller : goal.loop-j-smaller
 loop-j-smaller c = omega (arith, c.loop-j-test.true)
