@@ -1,6 +1,8 @@
 // The three demands, of calls through the C interface: each function calls one that include/sonquilate.h declares and promises, of its reply and of what
 // stands in the buffers, what users were promised in words. Its promise is proved from the contract of the function called, and that contract from its
 // promise (proofs/Calls), so neither can be changed without the other.
+#![tactic(auto)]
+
 ghost use Rattle.index.specs.Promises.{lent};
 ghost use Rattle.demands.specs.Calls.{CheckDemands, ElcaDemands, SlcaDemands, ValidDemands};
 
