@@ -1,6 +1,8 @@
 // What dispatchers are promised of a reason, of a call through the C interface: the function here calls the one that include/sonquilate.h declares and promises,
 // in plain statements, what the request has in words. Its promise is proved from the contract of the function called, and that contract from its promise
 // (proofs/Calls), so neither can be changed without the other.
+#![tactic(auto)]
+
 ghost use Rattle.index.specs.Promises.{lent};
 ghost use Rattle.reason_laws.specs.Calls.{ReasonDemands};
 
