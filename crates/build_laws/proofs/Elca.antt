@@ -16,7 +16,6 @@ use Rattle.seq.proofs.Laws.Lists.{Entry, some_of-at}
 use Rattle.seq.proofs.Laws.Members.{member_self, listed_below, listed_member}
 use Rattle.tree.specs.Plain.{Under}
 use Rattle.answers.specs.Plain.{Occurs, Full, Own, OwnOccurs, Elca}
-use Rattle.words.specs.Stands.{stands}
 use Rattle.build_laws.specs.Search.{WordUnder, FullOf, OwnWord, WordsElca}
 
 -- ---- lists that are where the words stand

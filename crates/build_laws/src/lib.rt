@@ -1,1 +1,3 @@
+#![tactic(auto)]
+
 // What building an index from a text promises as a whole: theorems alone.
