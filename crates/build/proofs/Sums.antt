@@ -1,5 +1,5 @@
 -- The counts, from flags: the loops of `sum_row` and `sum_rows`, over the laws of the count check's sums with one word.
---   sum-pre, summing-row-*   one row, from the last node to the first
+--   sum-pre, row-*           one row, from the last node to the first
 --   AllSums, all-sums-*      row after row
 -- Letters: p parents, w row, c counts, k words, v node, j word. Assumes nothing.
 use Prim.Native.Nat.{ℕ, zero, suc, zero-le, ◌+◌, ◌*◌, ◌-◌, ◌≤◌, ◌<◌, ◌^◌}

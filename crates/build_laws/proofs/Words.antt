@@ -1,6 +1,6 @@
 -- The words of a text are those of each document that has this text.
 --   words-read       the words that are read at the mentions, in order, are the words of the document
---   in_text_lem          a word is in the text exactly if it is among them;  in-text-stands: exactly if it stands at some node
+--   in_text_lem          a word is in the text exactly if it is among them;  in_text-stands: exactly if it stands at some node
 --   new-words        what is read at the new places are the distinct ones, in order of first appearance
 --   first-is         a new place at which a word is read is that of its first mention
 -- Letters: T text, d document, q word, b ks numbers that name words, j k numbers. Assumes nothing.

@@ -1,5 +1,5 @@
 -- The nodes that the first pass counts for a word are the nodes at which it stands.
---   climbs u l      == the entries of l rise, from u on;  climbs-rising: so each is above the one before
+--   climbs u l      == the entries of l rise, from u on;  climbs_rising: so each is above the one before
 --   hits_climbs, hits-below, hits_member   the nodes that are counted rise, are nodes of the mentions, and are those at which the word is read
 --   hits-listed     so they are the list of those nodes
 -- Letters: T text, q word, M mentions, v the node of the mention before them, u one more than the last node counted, or 0. Assumes nothing.

@@ -2,11 +2,7 @@
 use mathlib.Core.Path.{sym, ◌∙◌}
 use native.Mathlib.Omega.{arith}
 use Rattle.plan.proofs.Room.{small_product, room-tree, room-ends, room-counts}
-use borrow.Author.Rules.{rules}
 use Rattle.plan.proofs.has_room.Goals as goal
-
-pub has_room-requires : goal.has_room-requires
-has_room-requires c = search rules
 
 pub returns-then-not-has_room : goal.returns-then-not-has_room
 returns-then-not-has_room c = room-tree _ _ _ _ _ _ _ _ _ (sym c.has_room.ensures ∙ c.if-not-has_room.true)

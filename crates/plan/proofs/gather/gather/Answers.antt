@@ -3,20 +3,7 @@ use mathlib.Core.Path.{refl}
 use Rattle.query.proofs.Hashing.{hashes-of}
 use Rattle.plan.proofs.Passing.{cleared-blank, cleared-long}
 use Rattle.plan.proofs.Counting.{gathers_any}
-use borrow.Author.Rules.{rules}
 use Rattle.plan.proofs.gather.gather.Goals as goal
-
-pub slice_bounds-hash_words-end : goal.slice_bounds-hash_words-end
-slice_bounds-hash_words-end c = search rules
-
-pub clear-requires : goal.clear-requires
-clear-requires c = search rules
-
-pub slice_bounds-gather_words-end : goal.slice_bounds-gather_words-end
-slice_bounds-gather_words-end c = search rules
-
-pub slice_bounds-gather_words-end-2 : goal.slice_bounds-gather_words-end-2
-slice_bounds-gather_words-end-2 c = search rules
 
 pub gather_words-requires : goal.gather_words-requires
 gather_words-requires c = record { pre = c.requires; hashes = hashes-of _ c.requires.ok _ _ refl c.hash_words.ensures; lasts = refl; free = cleared-blank c.args.slots.now _ c.clear.ensures }

@@ -5,24 +5,14 @@ use Rattle.query.proofs.Kept.{query-kept}
 use Rattle.plan.proofs.Texts.{text-kept}
 use Rattle.plan.proofs.Passing.{none_left, nexts, own-hash}
 use Rattle.plan.proofs.Counting.{counting-start, counting-end, node-below, counting-full, total-small, counting-step, fewer-left}
-use borrow.Author.Rules.{rules}
 use borrow.Author.Tests.{not-true, not-false}
 use Rattle.plan.proofs.gather.gather_words.Goals as goal
 
 pub loop-s-init : goal.loop-s-init
 loop-s-init c = counting-start _ _ _ _ _ c.requires
 
-pub next-s-requires : goal.next-s-requires
-next-s-requires c = search rules
-
 pub returns-then-not-s : goal.returns-then-not-s
 returns-then-not-s c = counting-end _ _ _ _ _ _ _ _ _ _ (text-kept _ c.requires.pre.kept) c.loop-s.invariant (none_left _ _ _ _ _ _ c.next-s.ensures (not-true _ c.if-not-s.true)) _ refl
-
-pub hash_word-h-requires : goal.hash_word-h-requires
-hash_word-h-requires c = search rules
-
-pub enter-requires : goal.enter-requires
-enter-requires c = search rules
 
 pub returns-then-not-enter : goal.returns-then-not-enter
 returns-then-not-enter c = counting-full _ _ _ _ _ _ _ _ _ _ (text-kept _ c.requires.pre.kept) c.loop-s.invariant _ _ (nexts _ _ _ _ _ _ c.next-s.ensures (not-false _ c.if-not-s.false) _ c.hash_word-h.ensures) _ _ _ refl (c.if-not-enter.true) c.enter.ensures

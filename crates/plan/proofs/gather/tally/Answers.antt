@@ -4,21 +4,11 @@ use native.Mathlib.Omega.{arith}
 use Rattle.fnv.specs.Fnv.{hash_of}
 use Rattle.query.proofs.Kept.{query-kept, part-rises, part-within, part-is}
 use Rattle.plan.proofs.Gathering.{tallying_start, last_fits, new_is, tallying_new, tallying_not, tallying_end}
-use borrow.Author.Rules.{rules}
 use Rattle.plan.proofs.gather.tally.Goals as goal
 use Rattle.plan.proofs.gather.tally.Goals.{then-is_new, else-is_new}
 
 pub loop-j-init : goal.loop-j-init
 loop-j-init c = tallying_start _ _ _ _ _ c.requires.long
-
-pub offset_bounds-ends-j : goal.offset_bounds-ends-j
-offset_bounds-ends-j c = search rules
-
-pub bounds-ends-j : goal.bounds-ends-j
-bounds-ends-j c = search rules
-
-pub widen-to-requires : goal.widen-to-requires
-widen-to-requires c = search rules
 
 pub slice_bounds-is_new-count : goal.slice_bounds-is_new-count
 slice_bounds-is_new-count c = part-rises _ (query-kept _ c.requires.ok) _ _ _ c.loop-j-test.true c.loop-j.invariant.begins c.widen-to.ensures
@@ -29,14 +19,8 @@ slice_bounds-is_new-start c = part-rises _ (query-kept _ c.requires.ok) _ _ _ c.
 pub slice_bounds-is_new-end : goal.slice_bounds-is_new-end
 slice_bounds-is_new-end c = part-within _ (query-kept _ c.requires.ok) _ _ _ c.loop-j-test.true c.loop-j.invariant.begins c.widen-to.ensures
 
-pub offset_bounds-hashes-j : goal.offset_bounds-hashes-j
-offset_bounds-hashes-j c = search rules
-
 pub bounds-hashes-j : goal.bounds-hashes-j
 bounds-hashes-j c = omega (arith, c.loop-j-test.true, (query-kept _ c.requires.ok).few, c.requires.hashes.long)
-
-pub offset_bounds-lasts-j : goal.offset_bounds-lasts-j
-offset_bounds-lasts-j c = search rules
 
 pub bounds-lasts-j : goal.bounds-lasts-j
 bounds-lasts-j c = last_fits _ _ _ _ _ _ _ _ _ (query-kept _ c.requires.ok) c.loop-j.invariant c.loop-j-test.true
@@ -48,23 +32,8 @@ is_new-requires c = record {
   few = c.requires.few;
 }
 
-pub overflow_add-lasts : goal.overflow_add-lasts
-overflow_add-lasts c = search rules
-
-pub offset_bounds-lasts-j-then-is_new : goal.offset_bounds-lasts-j-then-is_new
-offset_bounds-lasts-j-then-is_new c = search rules
-
 pub bounds-lasts-j-then-is_new : goal.bounds-lasts-j-then-is_new
 bounds-lasts-j-then-is_new c = last_fits _ _ _ _ _ _ _ _ _ (query-kept _ c.requires.ok) c.loop-j.invariant c.loop-j-test.true
-
-pub overflow_add-count : goal.overflow_add-count
-overflow_add-count c = search rules
-
-pub overflow_add-j : goal.overflow_add-j
-overflow_add-j c = search rules
-
-pub loop-j-smaller : goal.loop-j-smaller
-loop-j-smaller c = search rules
 
 pub loop-j-preserved : goal.loop-j-preserved
 loop-j-preserved c =
