@@ -1,28 +1,36 @@
 // Cases 1 to 5, 11 and 12 of document 01, run on its small schedule and compared with what that document says.
 // A line for each call: e for ELCA or s for SLCA; refusal, place and total; then out as it is left, and for ELCA own. Both are lent full of 99.
+#![tactic(auto)]
+
+use std::io;
+
 const PARENTS: [u32; 18] = [0, 0, 1, 2, 3, 2, 5, 1, 7, 8, 7, 10, 0, 12, 13, 14, 0, 16];
 
 const TAGS: [u32; 18] = [1, 2, 3, 4, 0, 5, 0, 3, 4, 0, 6, 0, 2, 3, 5, 0, 7, 0];
 
-fn mark(byte: u8) {
-    let text = [byte];
-    io::write_all(1, &text);
+fn mark(rt: &impl Print, letter: char) -> io::Result<()> {
+    print!(rt; "{letter}")
 }
 
-fn print(number: u32) {
-    mark(b' ');
-    io::print_decimal(1, number as u64);
+fn print(rt: &impl Print, number: u32) -> io::Result<()> {
+    print!(rt; " {number}")
 }
 
-fn print_all(list: &[u32]) {
-    let mut i: usize = 0;
-    while i < list.len() {
-        print(list[i]);
-        i += 1;
+fn print_all(rt: &impl Print, list: &[u32]) -> io::Result<()> {
+    for number in list {
+        print(rt, *number)?;
     }
+    Ok(())
 }
 
-fn elca(p: u32, ends: &[u32], occurrences: &[u32], counts: &[u32], out: &mut [u32]) {
+fn elca(
+    rt: &impl Print,
+    p: u32,
+    ends: &[u32],
+    occurrences: &[u32],
+    counts: &[u32],
+    out: &mut [u32],
+) -> io::Result<()> {
     let mut work = [99; 95];
     let mut own = [99; 9];
     let r = elca::elca(
@@ -37,16 +45,22 @@ fn elca(p: u32, ends: &[u32], occurrences: &[u32], counts: &[u32], out: &mut [u3
         &mut *out,
         &mut own,
     );
-    mark(b'e');
-    print(r.refusal);
-    print(r.place);
-    print(r.total);
-    print_all(&*out);
-    print_all(&own);
-    mark(b'\n');
+    mark(rt, 'e')?;
+    print(rt, r.refusal)?;
+    print(rt, r.place)?;
+    print(rt, r.total)?;
+    print_all(rt, &*out)?;
+    print_all(rt, &own)?;
+    mark(rt, '\n')
 }
 
-fn slca(p: u32, ends: &[u32], occurrences: &[u32], counts: &[u32]) {
+fn slca(
+    rt: &impl Print,
+    p: u32,
+    ends: &[u32],
+    occurrences: &[u32],
+    counts: &[u32],
+) -> io::Result<()> {
     let mut work = [99; 95];
     let mut out = [99; 5];
     let r = slca::slca(
@@ -60,53 +74,53 @@ fn slca(p: u32, ends: &[u32], occurrences: &[u32], counts: &[u32]) {
         &mut work,
         &mut out,
     );
-    mark(b's');
-    print(r.refusal);
-    print(r.place);
-    print(r.total);
-    print_all(&out);
-    mark(b'\n');
+    mark(rt, 's')?;
+    print(rt, r.refusal)?;
+    print(rt, r.place)?;
+    print(rt, r.total)?;
+    print_all(rt, &out)?;
+    mark(rt, '\n')
 }
 
 // Cases 1, 2 and 11: the words A and Z, with room for five, for one and for two answers.
-fn two_words() {
+fn two_words(rt: &impl Print) -> io::Result<()> {
     let ends = [3, 5];
     let occurrences = [4, 9, 17, 6, 15];
     let counts = [
         3, 2, 1, 1, 1, 0, 0, 1, 1, 1, 0, 0, 0, 0, 0, 0, 1, 1, 2, 1, 1, 0, 0, 1, 1, 0, 0, 0, 0, 0,
         1, 1, 1, 1, 0, 0,
     ];
-    slca(2, &ends, &occurrences, &counts);
+    slca(rt, 2, &ends, &occurrences, &counts)?;
     let mut five = [99; 5];
-    elca(2, &ends, &occurrences, &counts, &mut five);
+    elca(rt, 2, &ends, &occurrences, &counts, &mut five)?;
     let mut one = [99; 1];
-    elca(2, &ends, &occurrences, &counts, &mut one);
+    elca(rt, 2, &ends, &occurrences, &counts, &mut one)?;
     let mut two = [99; 2];
-    elca(2, &ends, &occurrences, &counts, &mut two);
+    elca(rt, 2, &ends, &occurrences, &counts, &mut two)
 }
 
 // Case 3: one word gives its own list in both searches.
-fn one_word() {
+fn one_word(rt: &impl Print) -> io::Result<()> {
     let ends = [3];
     let occurrences = [4, 9, 17];
     let counts = [3, 2, 1, 1, 1, 0, 0, 1, 1, 1, 0, 0, 0, 0, 0, 0, 1, 1];
     let mut five = [99; 5];
-    elca(1, &ends, &occurrences, &counts, &mut five);
-    slca(1, &ends, &occurrences, &counts);
+    elca(rt, 1, &ends, &occurrences, &counts, &mut five)?;
+    slca(rt, 1, &ends, &occurrences, &counts)
 }
 
 // Case 4: a word at a node and at its child.
-fn one_above_the_other() {
+fn one_above_the_other(rt: &impl Print) -> io::Result<()> {
     let ends = [2];
     let occurrences = [1, 2];
     let counts = [2, 2, 1, 0, 0, 0, 0, 0, 0, 0, 0, 0, 0, 0, 0, 0, 0, 0];
     let mut five = [99; 5];
-    elca(1, &ends, &occurrences, &counts, &mut five);
-    slca(1, &ends, &occurrences, &counts);
+    elca(rt, 1, &ends, &occurrences, &counts, &mut five)?;
+    slca(rt, 1, &ends, &occurrences, &counts)
 }
 
 // Case 5: the same word twice.
-fn twice() {
+fn twice(rt: &impl Print) -> io::Result<()> {
     let ends = [3, 6];
     let occurrences = [4, 9, 17, 4, 9, 17];
     let counts = [
@@ -114,12 +128,12 @@ fn twice() {
         0, 0, 0, 0, 1, 1,
     ];
     let mut five = [99; 5];
-    elca(2, &ends, &occurrences, &counts, &mut five);
-    slca(2, &ends, &occurrences, &counts);
+    elca(rt, 2, &ends, &occurrences, &counts, &mut five)?;
+    slca(rt, 2, &ends, &occurrences, &counts)
 }
 
 // Case 12: a word that occurs nowhere.
-fn absent() {
+fn absent(rt: &impl Print) -> io::Result<()> {
     let ends = [3, 3];
     let occurrences = [4, 9, 17];
     let counts = [
@@ -127,14 +141,14 @@ fn absent() {
         0, 0, 0, 0, 0, 0,
     ];
     let mut five = [99; 5];
-    elca(2, &ends, &occurrences, &counts, &mut five);
-    slca(2, &ends, &occurrences, &counts);
+    elca(rt, 2, &ends, &occurrences, &counts, &mut five)?;
+    slca(rt, 2, &ends, &occurrences, &counts)
 }
 
-fn main() {
-    two_words();
-    one_word();
-    one_above_the_other();
-    twice();
-    absent();
+fn main(rt: HostRuntime) -> io::Result<()> {
+    two_words(&rt)?;
+    one_word(&rt)?;
+    one_above_the_other(&rt)?;
+    twice(&rt)?;
+    absent(&rt)
 }

@@ -1,12 +1,15 @@
 // The hash of a word in three cases that are published for 32-bit FNV-1a: of no bytes, of "a" and of "foobar"; and of the last in capitals, which has the same.
-fn print(word: &[u8]) {
-    io::print_decimal(1, inplace::hash_of(word) as u64);
-    io::write_all(1, b"\n");
+#![tactic(auto)]
+
+use std::io;
+
+fn print(rt: &impl Print, word: &[u8]) -> io::Result<()> {
+    println!(rt; "{}", inplace::hash_of(word))
 }
 
-fn main() {
-    print(b"");
-    print(b"a");
-    print(b"foobar");
-    print(b"FooBar");
+fn main(rt: HostRuntime) -> io::Result<()> {
+    print(&rt, b"")?;
+    print(&rt, b"a")?;
+    print(&rt, b"foobar")?;
+    print(&rt, b"FooBar")
 }

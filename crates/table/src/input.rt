@@ -2,45 +2,46 @@
 ghost use Rattle.std.specs.Prelude.{◌≡◌};
 ghost use Rattle.table.specs.Reading.{step_of};
 
-// What reading gives: how many bytes were put at the front of the buffer, or that a read failed.
+use std::io;
+use std::io::Read;
+
+// What reading gives: how many bytes were put at the front of the buffer, or that a read failed, and why.
 #[derive(Drop)]
 pub(crate) enum Input {
     Bytes(usize),
-    Failed,
+    Failed(io::Error),
 }
 
-// What one read tells: how many bytes came, that the input has ended, or that the read failed.
+// What one read tells: how many bytes came, that the input has ended, or that the read failed, and why.
 #[derive(Drop)]
 enum Step {
     Came(usize),
     Ended,
-    Failed,
+    Failed(io::Error),
 }
 
 // What `read` answered.
-fn step_of(got: isize) -> Step
+fn step_of(got: io::Result<usize>) -> Step
     ensures { result ≡ step_of got }
 {
-    if got < 0 {
-        return Step::Failed;
+    match got {
+        Err(e) => Step::Failed(e),
+        Ok(0) => Step::Ended,
+        Ok(n) => Step::Came(n),
     }
-    if 0 < got {
-        return Step::Came(got as usize);
-    }
-    Step::Ended
 }
 
 // Reads until the input ends, the array is full or a read fails. It takes the whole array, as `whole::answer_whole` does, so that no program can read less.
-pub(crate) fn read_input(input: &mut [u8; 16385]) -> Input {
+pub(crate) fn read_input(from: &mut impl Read, input: &mut [u8; 16385]) -> Input {
     let buf: &mut [u8] = input;
     let mut at: usize = 0;
     while at < buf.len() {
-        let got = libc::read(libc::STDIN_FILENO, &mut buf[at..]);
+        let got = from.read(&mut buf[at..]);
         let next = step_of(got);
         match next {
             Step::Came(n) => at += n,
             Step::Ended => return Input::Bytes(at),
-            Step::Failed => return Input::Failed,
+            Step::Failed(e) => return Input::Failed(e),
         }
     }
     Input::Bytes(at)
