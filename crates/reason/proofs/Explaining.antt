@@ -1,6 +1,6 @@
 -- From the index check to the search for a reason and back: the outcome of a call in each case. Assumes nothing.
 -- Letters: I index, v node, w what is lent as work; r the check's reply, w₁ work after it; u the node as the code has it, e explanation.
-use Prim.Native.Nat.{ℕ, ◌+◌, ◌*◌, ◌≤◌, ◌<◌}
+use Prim.Native.Nat.{ℕ, ◌*◌, ◌≤◌, ◌<◌}
 use mathlib.Core.Path.{◌≡◌, sym, ap, ap₂, ◌∙◌}
 use mathlib.Core.List.{List, ◌++◌}
 use mathlib.Core.Bool.{true, false, cond}

@@ -19,7 +19,6 @@ use lib.ListN.{length, get_or, replicate, length-replicate, get_or-replicate, ge
 use lib.Seq.{ext_get_or}
 use Rattle.seq.specs.Below.{some_below, tabulate}
 use Rattle.seq.specs.Lists.{some_of, EachBelow}
-use Rattle.seq.specs.Memory.{over}
 use Rattle.seq.specs.Plain.{Among}
 use Rattle.seq.proofs.Laws.Bools.{bool_cases, bool_false, bool-not_both, and_left, and_right, and_both}
 use Rattle.seq.proofs.Laws.Below.{Both, both_at, first-is, first-at, first_below}

@@ -1,5 +1,7 @@
 // Why a node is listed under ELCA, or is not (02, Q-4).
 // Two entry points: `explain`, and `in_numbers`, which puts an explanation into the numbers that C takes.
+#![tactic(auto)]
+
 mod finding;
 mod flags;
 

@@ -1,5 +1,7 @@
 // SLCA: the full nodes with no full proper descendant (01, "Which nodes are listed"; source document 000).
 // Entry points: `slca`, the search, and `flag_slca`, the marks that the search with NOT starts from.
+#![tactic(auto)]
+
 ghost use Rattle.std.specs.Prelude.{◌≡◌};
 ghost use Rattle.index.specs.Promises.{lent};
 ghost use Rattle.slca.specs.Inner.{marks_of, marks_by};

@@ -1,5 +1,4 @@
 -- `slca::drop_above` meets its contract: glue over Dropping.
-use Prim.Native.Nat.{◌-◌}
 use Rattle.slca.proofs.Dropping.{Dropping}
 use Rattle.slca.proofs.drop_above.Given as goal
 

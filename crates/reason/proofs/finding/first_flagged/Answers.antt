@@ -1,5 +1,5 @@
 -- `reason::finding::first_flagged` meets its contract: a scan of the list.
-use Prim.Native.Nat.{◌-◌, ◌<◌}
+use Prim.Native.Nat.{◌<◌}
 use lib.ListN.{length}
 use native.Mathlib.Omega.{arith}
 use borrow.Author.Rules.{rules}

@@ -1,5 +1,5 @@
 -- `reason::flags::first_missing` meets its contract: a column of counts above 0.
-use Prim.Native.Nat.{◌-◌, ◌*◌, ◌<◌}
+use Prim.Native.Nat.{◌*◌, ◌<◌}
 use Rattle.seq.proofs.Laws.Bools.{ltb-some, ltb-none}
 use Rattle.seq.proofs.Laws.Loops.{column-start, column_in, column-near, column-first, column-step, column-none}
 use Rattle.reason.proofs.Laws.Counts.{missing-is}

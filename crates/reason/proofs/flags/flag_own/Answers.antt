@@ -1,5 +1,5 @@
 -- `reason::flags::flag_own` meets its contract: glue over Flagging.
-use Prim.Native.Nat.{◌-◌, ◌<◌}
+use Prim.Native.Nat.{◌<◌}
 use mathlib.Core.Path.{◌≡◌, ap, ◌∙◌}
 use lib.ListN.{length, length-replicate}
 use native.Mathlib.Omega.{arith}
