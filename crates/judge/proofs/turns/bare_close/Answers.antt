@@ -58,9 +58,6 @@ returns-then-text-end c = bare-none _ _ _ _ _
 pub bounds-text-end : goal.bounds-text-end
 bounds-text-end c = omega (arith, c.if-text-end.false)
 
-pub returns-then-text-end-ne62 : goal.returns-then-text-end-ne62
-returns-then-text-end-ne62 c = bare-none _ _ _ _ _
-
 pub overflow_add-begun : goal.overflow_add-begun
 overflow_add-begun c = omega (arith, within (goal.at.overflow_add-begun c).Else-depth-eq0, c.requires.short)
 
@@ -79,4 +76,4 @@ overflow_add-result c =
 
 pub returns : goal.returns
 returns c =
-    bare-is _ _ _ _ _ c.if-depth-eq0.false c.if-text-end.false c.if-text-at-ne60.false c.if-text-at-ne47.false c.if-text-end-ne62.false _ c.common.ensures c.if-common-size.false
+    bare-is _ _ _ _ _ c.if-depth-eq0.false c.if-text-end.false c.if-text-at-ne60.false c.if-text-at-ne47.false (omega arith) _ c.common.ensures c.if-common-size.false
