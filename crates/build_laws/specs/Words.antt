@@ -8,7 +8,7 @@
 --   distinct seen l  == of the words l, in order, those that are neither among `seen` nor before them in l
 -- Letters: T text, q word, l words. Assumes nothing.
 use Rattle.std.specs.Prelude.{ℕ, suc, ◌<◌, ◌≡◌, List, [], ◌∷◌, ◌++◌, Bool, true, cond, get_or}
-use Rattle.std.proofs.Math.Option.{some}
+use mathlib.Core.Option.{some}
 use Rattle.seq.specs.Lists.{same_list, first_of}
 use Rattle.profile.specs.Grammar.{Document}
 use Rattle.profile.specs.Tags.{known}

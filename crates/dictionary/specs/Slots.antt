@@ -7,7 +7,7 @@
 --   table_of T m ks     == the table of m slots with the words at the places ks put in, in order; none where their distinct words outnumber the slots
 -- Letters: q a word, k a place, h a hash, w a table. Assumes nothing.
 use Rattle.std.specs.Prelude.{ℕ, suc, ◌%◌, ◌≡◌, List, Bool, cond, ◌&&◌, eqb, ltb, length, get_or, set}
-use Rattle.std.proofs.Math.Option.{Option}
+use mathlib.Core.Option.{Option}
 use Rattle.fnv.specs.Fnv.{hash_of}
 use Rattle.probing.specs.Around.{around}
 use Rattle.probing.specs.Table.{blank, passes, fill}

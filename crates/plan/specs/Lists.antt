@@ -6,7 +6,7 @@
 --   lists_to T Q k        == the lists of the first k words, one after the other
 -- Letters: T text, Q query, m slots, j k words. Assumes nothing.
 use Rattle.std.specs.Prelude.{ℕ, zero, suc, List, [], ◌++◌, map, Bool, true, false, length}
-use Rattle.std.proofs.Math.Option.{Option, none, some}
+use mathlib.Core.Option.{Option, none, some}
 use Rattle.seq.specs.Below.{listed}
 use Rattle.profile.specs.Reader.{tree_of}
 use Rattle.words.specs.Places.{Mention}

@@ -12,7 +12,7 @@
 --   firsts b ks  == of the numbers ks, in order, those whose word none before them names; b are those before ks
 -- Letters: q a word; k j numbers that name words; x what a slot holds; w a table; b ks lists of numbers. Assumes nothing.
 use Rattle.std.specs.Prelude.{ℕ, zero, suc, ◌%◌, List, [], ◌∷◌, Bool, false, not, cond, ◌&&◌, ltb, get_or, set, replicate}
-use Rattle.std.proofs.Math.Option.{Option, none, some}
+use mathlib.Core.Option.{Option, none, some}
 use Rattle.seq.specs.Lists.{some_of, same_list}
 use Rattle.probing.specs.Around.{around}
 

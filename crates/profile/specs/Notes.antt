@@ -5,7 +5,7 @@
 --   noted j t q m     == the memory m after the whole piece q, at the head of t and at the place j
 -- That it is what byte after byte adds is in proofs/Notes. Assumes nothing.
 use Rattle.std.specs.Prelude.{ℕ, ◌+◌, ◌-◌, List, [], ◌∷◌, cond, eqb, ltb}
-use Rattle.std.proofs.Math.Option.{none, some}
+use mathlib.Core.Option.{none, some}
 use Rattle.profile.specs.Tree.{Held, nothing, held}
 use Rattle.profile.specs.Reader.{Memory, remember, opened, emptied, closed}
 use Rattle.profile.specs.Reader as reader

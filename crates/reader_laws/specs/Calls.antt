@@ -4,7 +4,7 @@
 --   Cramped T l n   == the same of T, but its n nodes do not fit what is lent
 -- What MARKUP and TREE say is in `judge`, specs/Meaning. Letters: T text, l k what is lent, before and after; n nodes. Assumes nothing.
 use Rattle.std.specs.Prelude.{ℕ, ◌*◌, ◌≤◌, ◌≡◌, List, true, false, length}
-use Rattle.std.proofs.Math.Option.{none}
+use mathlib.Core.Option.{none}
 use Rattle.seq.specs.Memory.{zeroed, over}
 use Rattle.profile.specs.Grammar.{Document, text, IsText}
 use Rattle.profile.specs.Tree.{tree}
