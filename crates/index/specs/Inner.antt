@@ -41,7 +41,6 @@ pub record MarkWordsPre (n : ℕ) (ends occ w : List ℕ) : Type 0 where
   pub long : w ≡ replicate (n * length ends) 0
   pub small : n * length ends ≤ 524288
   pub words : (j : ℕ) → j < length ends → WordKept n ends occ j
-  pub few : length occ < 2 ^ 32
 
 pub record HandPre (n k «from» to : ℕ) (w : List ℕ) : Type 0 where
   pub node : «from» < n
@@ -76,7 +75,6 @@ pub record CountsBadPre (p t ends occ cs w : List ℕ) : Type 0 where
   pub nodes : 1 ≤ length p
   pub tree : Lawful p t
   pub words : (j : ℕ) → j < length ends → WordKept (length p) ends occ j
-  pub few : length occ < 2 ^ 32
   pub counted : length cs ≡ length ends * length p
   pub zeros : w ≡ replicate (length p * length ends) 0
   pub small : length p * length ends ≤ 524288

@@ -45,17 +45,17 @@ slice_bounds-counts_bad-end-2 c =
 pub counts_bad-bad_entry-requires : goal.counts_bad-bad_entry-requires
 counts_bad-bad_entry-requires c =
     count-pre _ c.args.work.now c.requires _ c.clear.ensures
-    (omega (arith, c.tree_bad-bad_node.ensures, c.if-bad_node-n.false)) (omega (arith, c.lists_bad-bad_word.ensures, c.if-bad_word-k.false)) (λ i. omega (arith, c.well_formed, c.type_inv.ends i))
+    (omega (arith, c.tree_bad-bad_node.ensures, c.if-bad_node-n.false)) (omega (arith, c.lists_bad-bad_word.ensures, c.if-bad_word-k.false))
 
-pub overflow_cast-result-then-bad_entry-counts : goal.overflow_cast-result-then-bad_entry-counts
-overflow_cast-result-then-bad_entry-counts c =
-    omega (arith, c.if-bad_entry-counts.true, counts-small _ c.args.work.now c.requires)
+pub overflow_cast-result-then-bad_entry-lent : goal.overflow_cast-result-then-bad_entry-lent
+overflow_cast-result-then-bad_entry-lent c =
+    omega (arith, c.if-bad_entry-lent.true, counts-small _ c.args.work.now c.requires)
 
-pub returns-then-bad_entry-counts : goal.returns-then-bad_entry-counts
-returns-then-bad_entry-counts c =
+pub returns-then-bad_entry-lent : goal.returns-then-bad_entry-lent
+returns-then-bad_entry-lent c =
     record {
       reply = reply-count _ c.args.work.now c.requires _ c.tree_bad-bad_node.ensures c.if-bad_node-n.false _ c.lists_bad-bad_word.ensures
-          c.if-bad_word-k.false _ c.counts_bad-bad_entry.ensures.place c.if-bad_entry-counts.true;
+          c.if-bad_word-k.false _ c.counts_bad-bad_entry.ensures.place c.if-bad_entry-lent.true;
       work = kept-work _ c.args.work.now c.requires _ c.clear.ensures _ c.counts_bad-bad_entry.ensures.work;
     }
 
@@ -63,6 +63,6 @@ pub returns : goal.returns
 returns c =
     record {
       reply = reply-clean _ c.args.work.now c.requires _ c.tree_bad-bad_node.ensures c.if-bad_node-n.false _ c.lists_bad-bad_word.ensures
-          c.if-bad_word-k.false _ c.counts_bad-bad_entry.ensures.place c.if-bad_entry-counts.false;
+          c.if-bad_word-k.false _ c.counts_bad-bad_entry.ensures.place c.if-bad_entry-lent.false;
       work = kept-work _ c.args.work.now c.requires _ c.clear.ensures _ c.counts_bad-bad_entry.ensures.work;
     }

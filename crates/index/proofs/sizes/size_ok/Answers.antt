@@ -27,17 +27,17 @@ returns-then-p-gt8 c = sym (sized_no _ _ _ (λ s. omega (arith, c.if-p-gt8.true,
 pub returns-then-p-q : goal.returns-then-p-q
 returns-then-p-q c = sym (sized_no _ _ _ (λ s. omega (arith, c.if-p-q.true, s.few_words)))
 
-pub returns-then-tags-n : goal.returns-then-tags-n
-returns-then-tags-n c = sym (sized_no _ _ _ (λ s. c.if-tags-n.true s.tagged))
+pub returns-then-lent-n : goal.returns-then-lent-n
+returns-then-lent-n c = sym (sized_no _ _ _ (λ s. c.if-lent-n.true s.tagged))
 
-pub returns-then-ends-k : goal.returns-then-ends-k
-returns-then-ends-k c = sym (sized_no _ _ _ (λ s. c.if-ends-k.true (s.ended ∙ sym c.widen-k.ensures)))
+pub returns-then-lent-k : goal.returns-then-lent-k
+returns-then-lent-k c = sym (sized_no _ _ _ (λ s. c.if-lent-k.true (s.ended ∙ sym c.widen-k.ensures)))
 
 pub overflow_mul-k : goal.overflow_mul-k
 overflow_mul-k c = omega (arith, product_le _ _ c.if-n-gt65536.false (few (goal.at.overflow_mul-k c).After-widen-k))
 
-pub returns-then-counts-k : goal.returns-then-counts-k
-returns-then-counts-k c = sym (sized_no _ _ _ (λ s. c.if-counts-k.true (s.counted ∙ ap (λ (k : ℕ). k * length c.args.parents.now) (sym c.widen-k.ensures))))
+pub returns-then-lent-k-2 : goal.returns-then-lent-k-2
+returns-then-lent-k-2 c = sym (sized_no _ _ _ (λ s. c.if-lent-k-2.true (s.counted ∙ ap (λ (k : ℕ). k * length c.args.lent.parents.now) (sym c.widen-k.ensures))))
 
 pub overflow_add-result : goal.overflow_add-result
 overflow_add-result c = omega (arith, few (goal.at.overflow_add-result c).After-widen-k)
@@ -48,7 +48,7 @@ overflow_mul-result c = omega (arith, product_le _ _ c.if-n-gt65536.false (few (
 pub returns : goal.returns
 returns c =
     sized-last _ _ _ _
-    (ap (λ (k : ℕ). leb ((k + 2) * length c.args.parents.now) (length c.args.work.now)) c.widen-k.ensures)
+    (ap (λ (k : ℕ). leb ((k + 2) * length c.args.lent.parents.now) (length c.args.work.now)) c.widen-k.ensures)
     (λ r. record {
       some_nodes = omega (arith, c.if-n-eq0.false);
       few_nodes = c.if-n-gt65536.false;
@@ -56,8 +56,8 @@ returns c =
       few_positive = c.if-p-gt8.false;
       few_words = omega (arith, c.if-p-gt8.false, c.if-p-q.false);
       few_negative = omega (arith, c.if-p-gt8.false, c.if-p-q.false);
-      tagged = c.if-tags-n.false;
-      ended = c.if-ends-k.false ∙ c.widen-k.ensures;
-      counted = c.if-counts-k.false ∙ ap (λ (k : ℕ). k * length c.args.parents.now) c.widen-k.ensures;
+      tagged = c.if-lent-n.false;
+      ended = c.if-lent-k.false ∙ c.widen-k.ensures;
+      counted = c.if-lent-k-2.false ∙ ap (λ (k : ℕ). k * length c.args.lent.parents.now) c.widen-k.ensures;
       roomy = r;
     })
