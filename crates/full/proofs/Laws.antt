@@ -1,17 +1,49 @@
 -- Laws of the full flags, and that no second outcome fits. Assumes nothing.
-use Prim.Native.Nat.{ℕ, ◌+◌, ◌*◌, ◌/◌, ◌<◌}
-use mathlib.Core.Path.{◌≡◌, refl, sym, ap, ◌∙◌}
+use Prim.Native.Nat.{ℕ, zero, suc, ◌+◌, ◌*◌, ◌/◌, ◌<◌}
+use mir.Val.{bool_byte}
+use mathlib.Core.Path.{◌≡◌, refl, sym, ap, ap₂, ◌∙◌}
 use mathlib.Core.List.{List, [], ◌∷◌}
-use mathlib.Core.Bool.{Bool, cond}
+use mathlib.Core.Bool.{Bool, true, false, cond, ◌&&◌}
 use native.Mathlib.Nat.{mul-div_cancel, div-mul-le_self, suc-ne-zero}
 use native.Mathlib.Omega.{arith}
 use lib.Dec.{ltb}
 use lib.ListN.{length, get_or}
+use Rattle.std.specs.List.{list_all, range_with_len}
 use Rattle.seq.specs.Below.{every_below, tabulate}
+use Rattle.seq.proofs.Laws.Below.{every-zero, every_ext}
 use Rattle.seq.proofs.Laws.Gather.{length-tabulate, get_d_tabulate}
 use Rattle.seq.proofs.Laws.Outcomes.{outcome_unique}
 use Rattle.full.specs.Full.{full_by, full_flags}
 use Rattle.full.specs.Inner.{FullPre}
+
+-- ---- `all` over a range is `every_below`
+and_assoc : (a b c : Bool) → (a && (b && c)) ≡ ((a && b) && c)
+and_assoc true b c = refl
+and_assoc false b c = refl
+
+every_front : (n : ℕ) (f : ℕ → Bool) → every_below (suc n) f ≡ (f 0 && every_below n (λ i. f (suc i)))
+unfolding every_below
+every_front zero f = and_true (f 0)
+  where
+    and_true : (b : Bool) → (true && b) ≡ (b && true)
+    and_true true = refl
+    and_true false = refl
+every_front (suc n) f = ap (λ (b : Bool). b && f (suc n)) (every_front n f) ∙ sym (and_assoc (f 0) (every_below n (λ i. f (suc i))) (f (suc n)))
+
+range_from : (f : ℕ → Bool) (a n : ℕ) → list_all f (range_with_len a n) ≡ every_below n (λ i. f (a + i))
+range_from f a zero = sym (every-zero (λ i. f (a + i)))
+range_from f a (suc n) =
+    ap₂ (λ (x y : Bool). x && y) (ap f (omega arith)) (range_from f (a + 1) n ∙ every_ext n _ (λ i. f (a + suc i)) (λ i l. ap f (omega arith)))
+    ∙ sym (every_front n (λ i. f (a + i)))
+
+pub every-range : (f : ℕ → Bool) (n : ℕ) → list_all f (range_with_len 0 n) ≡ every_below n f
+every-range f n = range_from f 0 n ∙ every_ext n _ _ (λ i l. ap f (omega arith))
+
+-- ---- the flags
+-- `u32::from` of a test is its flag.
+pub flag-from : (a b : Bool) → a ≡ b → bool_byte a ≡ cond b 1 0
+flag-from true b e = rw (← e) refl
+flag-from false b e = rw (← e) refl
 
 pub full_by-is : (cs : List ℕ) (n k v : ℕ) (b : Bool) → every_below k (λ j. ltb 0 (get_or cs (j * n + v) 0)) ≡ b → b ≡ full_by cs n k v
 unfolding full_by

@@ -10,16 +10,7 @@ fn is_full(counts: &[u32], n: usize, k: usize, v: usize) -> bool
     requires { FullPre counts.now n k v }
     ensures { result ≡ full_by counts.now n k v }
 {
-    let mut j: usize = 0;
-    let mut at = v;
-    while j < k {
-        if counts[at] == 0 {
-            return false;
-        }
-        at += n;
-        j += 1;
-    }
-    true
+    (0..k).all(|j| counts[j * n + v] != 0)
 }
 
 // Each flag becomes 1 where its node is full by the counts, else 0. There are as many nodes as flags, and as many words as counts has whole rows of them.
@@ -31,14 +22,7 @@ pub fn flag_full(counts: &[u32], flags: &mut [u32])
         return;
     }
     let k = counts.len() / n;
-    let mut v: usize = 0;
-    while v < n {
-        let full = is_full(counts, n, k, v);
-        if full {
-            flags[v] = 1;
-        } else {
-            flags[v] = 0;
-        }
-        v += 1;
+    for (v, flag) in flags.iter_mut().enumerate() {
+        *flag = u32::from(is_full(counts, n, k, v));
     }
 }
