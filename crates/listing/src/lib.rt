@@ -13,15 +13,7 @@ use index::Reply;
 pub fn count_flagged(flags: &[u32]) -> usize
     ensures { result ≡ length (listed (length flags.now) (flagged flags.now)) }
 {
-    let mut v: usize = 0;
-    let mut count: usize = 0;
-    while v < flags.len() {
-        if flags[v] == 1 {
-            count += 1;
-        }
-        v += 1;
-    }
-    count
+    flags.iter().filter(|flag| **flag == 1).count()
 }
 
 // Writes the flagged nodes over the front of out.
@@ -29,14 +21,12 @@ fn write_flagged(flags: &[u32], out: &mut [u32])
     requires { WritePre flags.now out.old }
     ensures { out.new ≡ over (flagged_rows flags.now) out.old }
 {
-    let mut v: usize = 0;
     let mut m: usize = 0;
-    while v < flags.len() {
-        if flags[v] == 1 {
+    for (v, flag) in flags.iter().enumerate() {
+        if *flag == 1 {
             out[m] = v as u32;
             m += 1;
         }
-        v += 1;
     }
 }
 
