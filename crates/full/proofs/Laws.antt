@@ -4,7 +4,7 @@ use mir.Val.{bool_byte}
 use mathlib.Core.Path.{◌≡◌, refl, sym, ap, ap₂, ◌∙◌}
 use mathlib.Core.List.{List, [], ◌∷◌}
 use mathlib.Core.Bool.{Bool, true, false, cond, ◌&&◌}
-use native.Mathlib.Nat.{mul-div_cancel, div-mul-le_self, suc-ne-zero}
+use native.Mathlib.Nat.{mul-div_cancel, suc-ne-zero}
 use native.Mathlib.Omega.{arith}
 use lib.Dec.{ltb}
 use lib.ListN.{length, get_or}
@@ -14,7 +14,6 @@ use Rattle.seq.proofs.Laws.Below.{every-zero, every_ext}
 use Rattle.seq.proofs.Laws.Gather.{length-tabulate, get_d_tabulate}
 use Rattle.seq.proofs.Laws.Outcomes.{outcome_unique}
 use Rattle.full.specs.Full.{full_by, full_flags}
-use Rattle.full.specs.Inner.{FullPre}
 
 -- ---- `all` over a range is `every_below`
 and_assoc : (a b c : Bool) → (a && (b && c)) ≡ ((a && b) && c)
@@ -58,10 +57,6 @@ pub full_flags-at : (cs : List ℕ) (n k v : ℕ) → length cs ≡ k * n → v 
 unfolding full_flags
 full_flags-at cs n k v e l =
     get_d_tabulate n _ v 0 l ∙ ap (λ (z : ℕ). cond (full_by cs n z v) 1 0) (ap (λ (z : ℕ). z / n) e ∙ mul-div_cancel k (omega arith))
-
--- What there is to read at a node: whole rows lie within the counts.
-pub full-pre : (cs : List ℕ) (n v : ℕ) → v < n → FullPre cs n (length cs / n) v
-full-pre cs n v l = record { node = l; rows = div-mul-le_self (length cs) n }
 
 -- Where there are no nodes there are no flags.
 pub full_flags-none : (cs fl : List ℕ) → length fl ≡ 0 → fl ≡ full_flags cs (length fl)

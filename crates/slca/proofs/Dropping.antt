@@ -1,7 +1,7 @@
 -- Marking the full nodes that have a full child: what the loop knows, and how a turn keeps it. Assumes nothing.
 -- The loop goes from the last node to the first; before node i - 1 is reached, the children from i on have marked their parents.
 -- Letters: p parents, fl flags as lent, w as they are now; i, j nodes reached, v node, c child; g the test for full nodes.
-use Prim.Native.Nat.{ℕ, zero, suc, ◌≤◌, ◌<◌}
+use Prim.Native.Nat.{ℕ, zero, suc, ◌-◌, ◌≤◌, ◌<◌}
 use mathlib.Core.Path.{◌≡◌, sym, ap, ◌∙◌, subst}
 use mathlib.Core.Logic.{⊎_elim}
 use mathlib.Core.List.{List}
@@ -104,14 +104,21 @@ stage_marked : (p fl : List ℕ) (j v : ℕ) → is_full fl v ≡ true → hit p
 unfolding stage
 stage_marked p fl j v a b = rw (a, b)
 
-module _ (p fl w : List ℕ) (i j : ℕ) (pre : DropPre p fl) (ij : i ≡ suc j) (s₀ : Dropping p fl w i) (h : 0 < j) where
+-- The turn at node j = i - 1.
+module _ (p fl w : List ℕ) (i : ℕ) (pre : DropPre p fl) (s₀ : Dropping p fl w i) (above : 1 < i) where
+  abbrev j : ℕ
+  j = i - 1
+
+  h : 0 < j
+  h = omega arith
+
   here : Dropping p fl w (suc j)
-  here = subst (Dropping p fl w) ij s₀
+  here = subst (Dropping p fl w) (omega arith) s₀
 
   node : j < length p
   node = here.within
 
-  pub drop-place : j < length w
+  drop-place : j < length w
   drop-place = omega (arith, here.long, node)
 
   -- A node that is not full marks nothing.
@@ -125,7 +132,7 @@ module _ (p fl w : List ℕ) (i j : ℕ) (pre : DropPre p fl) (ij : i ≡ suc j)
   up-less : parent p j < j
   up-less = parent-less p (length p) pre.down j h node
 
-  pub up-place : parent p j < length w
+  up-place : parent p j < length w
   up-place = omega (arith, up-less, drop-place)
 
   -- A full node marks its parent, which is full too.

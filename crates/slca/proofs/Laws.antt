@@ -15,7 +15,7 @@ use native.Mathlib.Omega.{arith}
 use lib.Dec.{eqb, ltb}
 use borrow.Author.Tests.{eq-eqb}
 use lib.ListN.{length, get_or, take, drop, replicate}
-use lib.Seq.{length_front, length-take-le, get_or-take, take_at}
+use lib.Seq.{length-take-le, get_or-take, take_at}
 use Rattle.seq.specs.Below.{some_below}
 use Rattle.seq.specs.Memory.{zeroed, over}
 use Rattle.seq.proofs.Laws.Memory.{zeroed-over, length_over}
@@ -157,10 +157,7 @@ module _ (p cs fl : List ℕ) (pre : MarkSlcaPre p cs fl) (f : List ℕ) (e : f 
   unfolding marks_by
   marks-by m q = q ∙ ap (marks_of p) flags-are
 
-  pub marks-long : (m : List ℕ) → m ≡ marks_of p f → length m ≡ length fl
-  marks-long m q = ap length (marks-by m q) ∙ length-marks_by p cs ∙ sym pre.long
-
--- ---- `flag_slca`, after the index check; k is p as the code has it
+-- ---- `flag_slca`, after the index check
 module _ (I : Index) (w : List ℕ) (r : Reply) (w₁ : List ℕ) (c : Checked I w r w₁) where
   pub mark-refused : (r.refusal ≡ accepted → ⊥) → Marked I w r w₁
   mark-refused ne = record { reply = c.reply; work = c.work ∙ sym (kept-refused (check_reply I w) _ _ (λ e. ne (ap (λ (z : Reply). z.refusal) c.reply ∙ e))) }
@@ -168,39 +165,32 @@ module _ (I : Index) (w : List ℕ) (r : Reply) (w₁ : List ℕ) (c : Checked I
   pub check-length : length w₁ ≡ length w
   check-length = ap length c.work ∙ work-length 8 I w
 
-  module _ (e : r.refusal ≡ accepted) (k : ℕ) (ek : k ≡ I.positive) where
+  module _ (e : r.refusal ≡ accepted) where
     s : Sized 8 I (length w)
     s = (checked-right I w r w₁ c e).0
 
     R : Right I
     R = (checked-right I w r w₁ c e).1
 
-    rows_same : k * nodes I ≡ rows I (length w) s R
-    rows_same = ap (λ (z : ℕ). z * nodes I) ek
+    pub mark-small : I.positive * nodes I ≤ 655360
+    mark-small = product_le (nodes I) I.positive s.few_nodes (omega (arith, s.few_positive))
 
-    pub mark-small : k * nodes I ≤ 655360
-    mark-small = product_le (nodes I) k s.few_nodes (omega (arith, s.few_positive))
-
-    pub mark-rows : k * nodes I ≤ length I.counts
-    mark-rows = omega (arith, rows_same, rows_in I (length w) s R)
+    pub mark-rows : I.positive * nodes I ≤ length I.counts
+    mark-rows = rows_in I (length w) s R
 
     pub mark-nodes : nodes I ≤ length w₁
     mark-nodes = omega (arith, check-length, nodes_in I (length w) s R)
 
-    pub mark-pre : MarkSlcaPre I.parents (take (k * nodes I) I.counts) (take (nodes I) w₁)
+    pub mark-pre : MarkSlcaPre I.parents (take (I.positive * nodes I) I.counts) (take (nodes I) w₁)
     mark-pre = record {
       long = length-take-le (nodes I) w₁ mark-nodes;
-      full = subst (λ (z : ℕ). DropPre I.parents (full_flags (take z I.counts) (nodes I))) (sym rows_same) (drop-pre I (length w) s R);
+      full = drop-pre I (length w) s R;
     }
 
-    pub mark-length : (fl : List ℕ) → fl ≡ marks_by I.parents (take (k * nodes I) I.counts) → length (fl ++ drop (nodes I) w₁) ≡ length w
-    mark-length fl q =
-        length_front w₁ fl (nodes I) (ap length q ∙ length-marks_by I.parents (take (k * nodes I) I.counts) ∙ sym (length-take-le (nodes I) w₁ mark-nodes)) ∙ check-length
-
-    pub mark-accepted : (fl : List ℕ) → fl ≡ marks_by I.parents (take (k * nodes I) I.counts) → Marked I w r (fl ++ drop (nodes I) w₁)
+    pub mark-accepted : (fl : List ℕ) → fl ≡ marks_by I.parents (take (I.positive * nodes I) I.counts) → Marked I w r (fl ++ drop (nodes I) w₁)
     unfolding over
     mark-accepted fl q =
-        let marks : fl ≡ slca_marks I = q ∙ ap (λ (z : ℕ). marks_by I.parents (take z I.counts)) rows_same ∙ marks-are I (length w) s R in
+        let marks : fl ≡ slca_marks I = q ∙ marks-are I (length w) s R in
         record {
           reply = c.reply;
           work =

@@ -15,11 +15,9 @@ fn drop_above(parents: &[u32], flags: &mut [u32])
     requires { DropPre parents.now flags.old }
     ensures { flags.new ≡ marks_of parents.now flags.old }
 {
-    let mut i = flags.len();
-    while 1 < i {
-        i -= 1;
+    for i in (1..flags.len()).rev() {
         if flags[i] != 0 {
-            let up = seq::widen(parents[i]);
+            let up = parents[i] as usize;
             flags[up] = 2;
         }
     }
@@ -54,7 +52,7 @@ pub fn flag_slca(
         return r;
     }
     let n = parents.len();
-    let rows = seq::widen(p) * n;
+    let rows = p as usize * n;
     mark_slca(parents, &counts[..rows], &mut work[..n]);
     r
 }

@@ -4,6 +4,3 @@ use Rattle.slca.proofs.drop_above.Given as goal
 
 abbrev pub invariant-loop-i : goal.invariant-loop-i
 invariant-loop-i l = Dropping l.parents l.initial.flags l.flags l.i
-
-abbrev pub decreases-loop-i : goal.decreases-loop-i
-decreases-loop-i l = l.i
