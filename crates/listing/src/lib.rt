@@ -4,10 +4,11 @@
 ghost use Rattle.std.specs.Prelude.{◌≡◌, length};
 ghost use Rattle.seq.specs.Below.{listed};
 ghost use Rattle.seq.specs.Memory.{over};
+ghost use Rattle.index.specs.Replies.{reply_of};
 ghost use Rattle.listing.specs.Listing.{flagged, flagged_rows, Listed};
 ghost use Rattle.listing.specs.Inner.{WritePre};
 
-use index::Reply;
+use index::Refusal;
 
 // The number of nodes flagged with 1.
 pub fn count_flagged(flags: &[u32]) -> usize
@@ -31,31 +32,19 @@ fn write_flagged(flags: &[u32], out: &mut [u32])
 }
 
 // Lists the nodes flagged with 1.
-//   1 SIZE   more than 65,536 flags; place and total 0; out stays
-//   5 ROOM   out is shorter than the answer; total: the flagged nodes; out stays
-//   0        total: the flagged nodes; they are written over the front of out, later entries stay
-pub fn list_flagged(flags: &[u32], out: &mut [u32]) -> Reply
-    ensures { Listed flags.now out.old result out.new }
+//   Size      more than 65,536 flags; out stays
+//   Room(m)   out is shorter than the m flagged nodes; out stays
+//   Ok(m)     the m flagged nodes are written over the front of out, later entries stay
+pub fn list_flagged(flags: &[u32], out: &mut [u32]) -> Result<u32, Refusal>
+    ensures { Listed flags.now out.old (reply_of result) out.new }
 {
     if 65536 < flags.len() {
-        return Reply {
-            refusal: index::SIZE,
-            place: 0,
-            total: 0,
-        };
+        return Err(Refusal::Size);
     }
     let m = count_flagged(flags);
     if out.len() < m {
-        return Reply {
-            refusal: index::ROOM,
-            place: 0,
-            total: m as u32,
-        };
+        return Err(Refusal::Room(m as u32));
     }
     write_flagged(flags, out);
-    Reply {
-        refusal: index::ACCEPTED,
-        place: 0,
-        total: m as u32,
-    }
+    Ok(m as u32)
 }

@@ -3,12 +3,13 @@
 #![tactic(auto)]
 
 ghost use Rattle.std.specs.Prelude.{◌≡◌};
-ghost use Rattle.index.specs.Promises.{lent};
+ghost use Rattle.index.specs.Replies.{reply_of, verdict_of};
+ghost use Rattle.index.specs.Promises.{index_of};
 ghost use Rattle.slca.specs.Inner.{marks_of, marks_by};
 ghost use Rattle.slca.specs.Promises.{Marked, SlcaSearched};
 ghost use Rattle.slca.specs.Inner.{DropPre, MarkSlcaPre};
 
-use index::Reply;
+use index::{Lent, Refusal};
 
 // From flags of full nodes: a full node with a full child becomes 2. From the last node to the first, a full node marks its parent.
 fn drop_above(parents: &[u32], flags: &mut [u32])
@@ -32,63 +33,32 @@ fn mark_slca(parents: &[u32], counts: &[u32], flags: &mut [u32])
     drop_above(parents, flags);
 }
 
-// The index check for p positive and q negative words, with its replies. Where it accepts, the first n entries of work then hold the marks of the
+// The index check, with its refusals, for positive and negative words. Where it accepts, the first n entries of work then hold the marks of the
 // positive words: 1 at an SLCA, 2 at any other full node, 0 elsewhere. All else is as the index check leaves it.
-pub fn flag_slca(
-    parents: &[u32],
-    tags: &[u32],
-    p: u32,
-    q: u32,
-    ends: &[u32],
-    occurrences: &[u32],
-    counts: &[u32],
-    work: &mut [u32],
-) -> Reply
-    ensures { Marked (lent parents.now tags.now p q ends.now occurrences.now
-        counts.now) work.old result work.new }
+pub fn flag_slca(lent: Lent, work: &mut [u32]) -> Result<(), Refusal>
+    ensures { Marked (index_of lent.entry) work.old (verdict_of result) work.new }
 {
-    let r = index::check(parents, tags, p, q, ends, occurrences, counts, &mut *work);
-    if r.refusal != index::ACCEPTED {
-        return r;
-    }
-    let n = parents.len();
-    let rows = p as usize * n;
-    mark_slca(parents, &counts[..rows], &mut work[..n]);
-    r
+    index::check(lent, &mut *work)?;
+    let n = lent.parents.len();
+    let rows = lent.positive as usize * n;
+    mark_slca(lent.parents, &lent.counts[..rows], &mut work[..n]);
+    Ok(())
 }
 
-// The SLCAs of p positive words, in increasing number, in out.
-//   1 SIZE   q above 0, or as the index check has it; nothing is touched
-//   2 TREE, 3 LIST, 4 COUNT   as the index check has them
-//   5 ROOM   out is shorter than the answer; place 0, total: the answers needed
-//   0        place 0, total: the answers, which are written over the front of out; later entries stay
-// Any refusal keeps out as lent. Under every reply but SIZE the first (p + 2)·n entries of work end as 0, and the rest is untouched.
-pub fn slca(
-    parents: &[u32],
-    tags: &[u32],
-    p: u32,
-    q: u32,
-    ends: &[u32],
-    occurrences: &[u32],
-    counts: &[u32],
-    work: &mut [u32],
-    out: &mut [u32],
-) -> Reply
-    ensures { SlcaSearched (lent parents.now tags.now p q ends.now occurrences.now
-        counts.now) work.old out.old result work.new out.new }
+// The SLCAs of p positive words, in increasing number, in out; n nodes.
+//   Size               a negative word, or as the index check has it; nothing is touched
+//   Tree, List, Count  as the index check has them
+//   Room(m)            out is shorter than the m answers
+//   Ok(m)              the m answers are written over the front of out; later entries stay
+// Any refusal keeps out as lent. Under every answer but Size the first (p + 2)·n entries of work end as 0, and the rest is untouched.
+pub fn slca(lent: Lent, work: &mut [u32], out: &mut [u32]) -> Result<u32, Refusal>
+    ensures { SlcaSearched (index_of lent.entry) work.old out.old (reply_of result) work.new out.new }
 {
-    if q != 0 {
-        return Reply {
-            refusal: index::SIZE,
-            place: 0,
-            total: 0,
-        };
+    if lent.negative != 0 {
+        return Err(Refusal::Size);
     }
-    let r = flag_slca(parents, tags, p, q, ends, occurrences, counts, &mut *work);
-    if r.refusal != index::ACCEPTED {
-        return r;
-    }
-    let n = parents.len();
+    flag_slca(lent, &mut *work)?;
+    let n = lent.parents.len();
     let answer = listing::list_flagged(&work[..n], out);
     seq::clear(&mut work[..n]);
     answer
