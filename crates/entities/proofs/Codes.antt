@@ -4,7 +4,7 @@
 --   code-few          a code is at most 5
 --   entity-code       a node's tag and code tell whether it is an entity
 -- Letters: p parents, t tags; v node, c child, i nodes passed; b flag of its type, k number of children.
-use Prim.Native.Nat.{ℕ, zero, suc, ◌+◌, ◌*◌, ◌≤◌, ◌<◌}
+use Prim.Native.Nat.{ℕ, zero, suc, ◌+◌, ◌*◌, ◌≤◌}
 use mathlib.Core.Path.{◌≡◌, refl, ap, ap₂, ◌∙◌}
 use mathlib.Core.Logic.{⊎_elim}
 use mathlib.Core.List.{List}
@@ -12,7 +12,7 @@ use mathlib.Core.Bool.{Bool, true, false, not, cond, ◌&&◌, ◌||◌, or-fals
 use native.Mathlib.Nat.{add-zero}
 use native.Mathlib.Omega.{arith}
 use lib.Dec.{eqb}
-use borrow.Author.Tests.{eq-eqb, ne_eqb, le-leb, lt-leb}
+use borrow.Author.Tests.{ne_eqb}
 use lib.ListN.{length, get_or}
 use Rattle.seq.specs.Below.{sum_below, some_below}
 use Rattle.seq.proofs.Laws.Bools.{bool_cases, bool_false, and_left}
@@ -23,7 +23,7 @@ use Rattle.tree.specs.Rules.{text}
 use Rattle.tree.proofs.Laws.Children.{child-root}
 use Rattle.answers.specs.Classes.{is_text, is_attribute, is_entity, is_dummy, is_entity_class, children, one_text, repeats, class_of, entity}
 use Rattle.types.specs.Repeated.{repeat_flag}
-use Rattle.entities.specs.Inner.{children_to, text_to, kid_code, code_to, grown, entity_by, closest_by, codes}
+use Rattle.entities.specs.Inner.{children_to, text_to, kid_code, code_to, grown, entity_by, codes}
 
 -- What the flag says.
 abbrev flagged : List ℕ → List ℕ → ℕ → Bool
@@ -140,41 +140,3 @@ module _ (p t : List ℕ) (v : ℕ) where
       by_tests false b (suc k) s = rw (ne_eqb (suc k) 0 (λ (q : suc k ≡ 0). omega arith)) (by_code b (eqb (suc k) 1 && s))
       by_tests false true zero s = refl
       by_tests false false zero s = refl
-
--- ---- as the code asks
-module _ (x k : ℕ) where
-  pub entity-text : x ≡ 0 → false ≡ entity_by x k
-  unfolding entity_by
-  entity-text e = rw (eq-eqb x 0 e)
-
-  pub entity-one : (x ≡ 0 → ⊥) → k ≡ 1 → true ≡ entity_by x k
-  unfolding entity_by
-  entity-one ne e = rw (ne_eqb x 0 ne, eq-eqb k 1 e)
-
-  pub entity-five : (x ≡ 0 → ⊥) → (k ≡ 1 → ⊥) → eqb k 5 ≡ entity_by x k
-  unfolding entity_by
-  entity-five ne nk = rw (ne_eqb x 0 ne, ne_eqb k 1 nk)
-
-  pub closest-entity : (v u : ℕ) → entity_by x k ≡ true → v ≡ closest_by x k v u
-  unfolding closest_by
-  closest-entity v u e = rw e
-
-  pub closest-other : (v u : ℕ) → entity_by x k ≡ false → u ≡ closest_by x k v u
-  unfolding closest_by
-  closest-other v u e = rw e
-
-  pub grown-same : 4 ≤ k → k ≡ grown k x
-  unfolding grown
-  grown-same h = rw (le-leb 4 k h)
-
-  pub grown-second : k < 4 → 2 ≤ k → k + 2 ≡ grown k x
-  unfolding grown
-  grown-second a b = rw (lt-leb 4 k a, le-leb 2 k b)
-
-  pub grown-text : k < 4 → k < 2 → x ≡ 0 → k + 2 ≡ grown k x
-  unfolding grown
-  grown-text a b e = rw (lt-leb 4 k a, lt-leb 2 k b, eq-eqb x 0 e)
-
-  pub grown-other : k < 4 → k < 2 → (x ≡ 0 → ⊥) → k + 4 ≡ grown k x
-  unfolding grown
-  grown-other a b ne = rw (lt-leb 4 k a, lt-leb 2 k b, ne_eqb x 0 ne)

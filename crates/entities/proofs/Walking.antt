@@ -7,7 +7,6 @@ use mathlib.Core.Path.{◌≡◌, sym, ap, ap₂, ◌∙◌}
 use mathlib.Core.Logic.{⊎_elim}
 use mathlib.Core.List.{List}
 use mathlib.Core.Bool.{Bool, cond}
-use native.Mathlib.Nat.{le_antisymm}
 use native.Mathlib.Numerals.{add-one}
 use native.Mathlib.Omega.{arith}
 use lib.Dec.{eqb}
@@ -40,15 +39,12 @@ growing_start p t w pre = record {
 }
 
 module _ (p t w₀ w : List ℕ) (c : ℕ) (pre : TreePre p t (repeat_flag p t) w₀) (s : Growing p t w c) (h : c < length p) where
-  pub grow-tag : c < length t
-  grow-tag = omega (arith, pre.tagged)
-
   -- u is the parent of c, as the code has it.
   module _ (u : ℕ) (e : u ≡ parent p c) where
-    pub grow-node : u < length p
+    grow-node : u < length p
     grow-node = omega (arith, parent-less p (length p) pre.down c s.some h)
 
-    pub grow-place : u < length w
+    grow-place : u < length w
     grow-place = omega (arith, s.row.long, grow-node)
 
     pub grow-few : get_or w u 0 ≤ 5
@@ -73,9 +69,6 @@ module _ (p t w₀ w : List ℕ) (c : ℕ) (pre : TreePre p t (repeat_flag p t) 
         there v l ne =
             get_or-set_other w u v r 0 ne ∙ s.row.holds v l ∙ sym (code_other p t v c (child-of p v c s.some ∙ ne_eqb v (parent p c) (λ q. ne (q ∙ sym e))))
 
-pub growing_end : (p t w : List ℕ) (c : ℕ) → Growing p t w c → length p ≤ c → Holds (length p) (codes p t) w
-growing_end p t w c s h = record { long = s.row.long; holds = λ v l. s.row.holds v l ∙ ap (λ (z : ℕ). code_to p t z v) (le_antisymm s.within h) }
-
 -- ---- passing the closest entity down
 closest-at : (p : List ℕ) → Down p (length p) → (t : List ℕ) (v : ℕ) → 0 < v → v < length p → closest p t v ≡ cond (entity p t v) v (closest p t (parent p v))
 closest-at p d t zero z l = absurd (no_less z)
@@ -93,7 +86,7 @@ pub record Passing (p t w : List ℕ) (v : ℕ) : Type 0 where
   pub rest : (u : ℕ) → v ≤ u → u < length p → get_or w u 0 ≡ codes p t u
 
 module _ (p t w₀ : List ℕ) (pre : TreePre p t (codes p t) w₀) where
-  pub pass-first : 0 < length w₀
+  pass-first : 0 < length w₀
   pass-first = omega (arith, pre.some, pre.row.long)
 
   pub passing-start : Passing p t (set w₀ 0 0) 1
@@ -109,11 +102,8 @@ module _ (p t w₀ : List ℕ) (pre : TreePre p t (codes p t) w₀) where
       none u l = omega arith
 
   module _ (w : List ℕ) (v : ℕ) (s : Passing p t w v) (h : v < length p) where
-    pub pass-place : v < length w
+    pass-place : v < length w
     pass-place = omega (arith, s.long)
-
-    pub pass-tag : v < length t
-    pass-tag = omega (arith, pre.tagged)
 
     -- x is what stands at v afterwards.
     stepped : (x : ℕ) → x ≡ closest p t v → Passing p t (set w v x) (v + 1)
@@ -130,15 +120,9 @@ module _ (p t w₀ : List ℕ) (pre : TreePre p t (codes p t) w₀) where
       pass-less : u < v
       pass-less = omega (arith, parent-less p (length p) pre.down v s.some h)
 
-      pub pass_up : u < length w
-      pass_up = omega (arith, pass-less, s.long)
-
       pub passing_step : (x : ℕ) → x ≡ closest_by (get_or t v 0) (get_or w v 0) v (get_or w u 0) → Passing p t (set w v x) (v + 1)
       unfolding closest_by
       passing_step x e =
           stepped x
           (e ∙ ap₂ (λ (b : Bool) (z : ℕ). cond b v z) (ap (entity_by (get_or t v 0)) (s.rest v (omega arith) h) ∙ entity-code p t v) (s.done u pass-less ∙ ap (closest p t) eu)
           ∙ sym (closest-at p pre.down t v s.some h))
-
-  pub passing-end : (w : List ℕ) (v : ℕ) → Passing p t w v → length p ≤ v → Holds (length p) (closest p t) w
-  passing-end w v s h = record { long = s.long; holds = λ u l. s.done u (omega arith) }

@@ -12,13 +12,7 @@ ghost use Rattle.entities.specs.Closest.{closest_rows};
 fn is_entity(tag: u32, code: u32) -> bool
     ensures { result ≡ entity_by tag code }
 {
-    if tag == 0 {
-        return false;
-    }
-    if code == 1 {
-        return true;
-    }
-    code == 5
+    tag != 0 && (code == 1 || code == 5)
 }
 
 // The code after one more child, whose tag is `tag`.
@@ -26,16 +20,13 @@ fn grow(code: u32, tag: u32) -> u32
     requires { code ≤ 5 }
     ensures { result ≡ grown code tag }
 {
-    if 4 <= code {
-        return code;
+    if code >= 4 {
+        code
+    } else if code >= 2 || tag == 0 {
+        code + 2
+    } else {
+        code + 4
     }
-    if 2 <= code {
-        return code + 2;
-    }
-    if tag == 0 {
-        return code + 2;
-    }
-    code + 4
 }
 
 // From the flags of the types that repeat: the code of each node.
@@ -43,11 +34,9 @@ fn count_children(parents: &[u32], tags: &[u32], row: &mut [u32])
     requires { TreePre parents.now tags.now (repeat_flag parents.now tags.now) row.old }
     ensures { Holds (length parents.now) (codes parents.now tags.now) row.new }
 {
-    let mut c: usize = 1;
-    while c < parents.len() {
-        let up = seq::widen(parents[c]);
+    for c in 1..parents.len() {
+        let up = parents[c] as usize;
         row[up] = grow(row[up], tags[c]);
-        c += 1;
     }
 }
 
@@ -55,10 +44,7 @@ fn count_children(parents: &[u32], tags: &[u32], row: &mut [u32])
 fn closest_of(tag: u32, code: u32, v: u32, above: u32) -> u32
     ensures { result ≡ closest_by tag code v above }
 {
-    if is_entity(tag, code) {
-        return v;
-    }
-    above
+    if is_entity(tag, code) { v } else { above }
 }
 
 // From the codes: the closest entity of each node, which is the node itself where it is an entity, and else its parent's.
@@ -67,11 +53,9 @@ fn pass_down(parents: &[u32], tags: &[u32], row: &mut [u32])
     ensures { Holds (length parents.now) (closest parents.now tags.now) row.new }
 {
     row[0] = 0;
-    let mut v: usize = 1;
-    while v < parents.len() {
-        let up = seq::widen(parents[v]);
+    for v in 1..parents.len() {
+        let up = parents[v] as usize;
         row[v] = closest_of(tags[v], row[v], v as u32, row[up]);
-        v += 1;
     }
 }
 

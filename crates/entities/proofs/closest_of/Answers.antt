@@ -1,10 +1,13 @@
 -- `entities::closest_of` meets its contract.
-use mathlib.Core.Path.{sym, ◌∙◌}
-use Rattle.entities.proofs.Codes.{closest-entity, closest-other}
+use Rattle.std.proofs.Common.{arith}
+use Rattle.std.proofs.lemmas.Grind.{common_steps}
+use Rattle.entities.specs.Inner.{closest_by}
 use Rattle.entities.proofs.closest_of.Goals as goal
 
 pub returns-then-is_entity : goal.returns-then-is_entity
-returns-then-is_entity c = closest-entity _ _ _ _ (sym c.is_entity.ensures ∙ c.if-is_entity.true)
+unfolding closest_by
+returns-then-is_entity c = grind (arith, common_steps)
 
-pub returns : goal.returns
-returns c = closest-other _ _ _ _ (sym c.is_entity.ensures ∙ c.if-is_entity.false)
+pub returns-else-is_entity : goal.returns-else-is_entity
+unfolding closest_by
+returns-else-is_entity c = grind (arith, common_steps)

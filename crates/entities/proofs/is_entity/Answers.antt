@@ -1,12 +1,17 @@
 -- `entities::is_entity` meets its contract.
-use Rattle.entities.proofs.Codes.{entity-text, entity-one, entity-five}
+use Rattle.std.proofs.Common.{arith}
+use Rattle.std.proofs.lemmas.Grind.{common_steps}
+use Rattle.entities.specs.Inner.{entity_by}
 use Rattle.entities.proofs.is_entity.Goals as goal
 
-pub returns-then-tag-eq0 : goal.returns-then-tag-eq0
-returns-then-tag-eq0 c = entity-text _ _ c.if-tag-eq0.true
-
 pub returns-then-code-eq1 : goal.returns-then-code-eq1
-returns-then-code-eq1 c = entity-one _ _ c.if-tag-eq0.false c.if-code-eq1.true
+unfolding entity_by
+returns-then-code-eq1 c = grind (arith, common_steps)
 
-pub returns : goal.returns
-returns c = entity-five _ _ c.if-tag-eq0.false c.if-code-eq1.false
+pub returns-else-code-eq1 : goal.returns-else-code-eq1
+unfolding entity_by
+returns-else-code-eq1 c = grind (arith, common_steps)
+
+pub returns-else-tag-ne0 : goal.returns-else-tag-ne0
+unfolding entity_by
+returns-else-tag-ne0 c = grind (arith, common_steps)
