@@ -90,7 +90,7 @@ module _ (I : Index) (w o : List ℕ) (r : Reply) (w₁ : List ℕ) (m : Marked 
           flags-listed (slca_marks I) (length-marks I) (λ v l. marked-slca I (length w) sized right v l ∙ all_valid v) w₁ (marked-first I w r w₁ m e) (marked-cleared I w r w₁ m e)
 
     -- ---- with a negative word; k is p as the code has it
-    module _ (nz : I.negative ≡ 0 → ⊥) (k : ℕ) (ek : k ≡ I.positive) where
+    module _ (some : 0 < I.negative) (k : ℕ) (ek : k ≡ I.positive) where
       abbrev n : ℕ
       n = nodes I
 

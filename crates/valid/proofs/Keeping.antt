@@ -12,7 +12,7 @@ use Rattle.seq.specs.Lists.{some_of}
 use Rattle.seq.proofs.Laws.Lists.{some_of_ext}
 use Rattle.seq.proofs.Laws.Parts.{put-long, put-before, put-inside}
 use Rattle.index.specs.Index.{word_list}
-use Rattle.valid.specs.Inner.Tops.{top_by, PointPre, Pointed, points, SeeWordsPre, SawWords, flag_here, SettlePre, Settled, kept_flag, KeepPre, Kept}
+use Rattle.valid.specs.Inner.Tops.{top_by, Pointed, points, SawWords, flag_here, Settled, kept_flag, KeepPre, Kept}
 use Rattle.valid.proofs.Reached.{reached_ext}
 
 -- The second of two rows, cleared.
@@ -40,9 +40,6 @@ module _ (n : ℕ) (w : List ℕ) (long : length w ≡ n + n) (c : List ℕ) (e 
       put-inside n (length w - n) w c fits c-long v (omega arith) ∙ ap (λ (x : List ℕ). get_or x v 0) e ∙ get_or-replicate (length (take (length w - n) (drop n w))) v 0 0 (omega (arith, rest-long))
 
 module _ (p : List ℕ) (k : ℕ) (ends occ w : List ℕ) (pre : KeepPre p k ends occ w) where
-  pub keep-point-pre : PointPre p w
-  keep-point-pre = record { few = pre.few; down = pre.down; long = pre.long }
-
   module _ (w₁ : List ℕ) (m₁ : Pointed p w w₁) where
     pub keep_long₁ : length w₁ ≡ length p + length p
     keep_long₁ = m₁.long ∙ pre.long
@@ -51,20 +48,7 @@ module _ (p : List ℕ) (k : ℕ) (ends occ w : List ℕ) (pre : KeepPre p k end
       abbrev w₂ : List ℕ
       w₂ = cleared (length p) w₁ keep_long₁ c₁ e₁
 
-      pub keep-words-pre : SeeWordsPre (length p) k ends occ w₂
-      keep-words-pre = record {
-        few = pre.few;
-        few_words = pre.few_words;
-        ended = pre.ended;
-        words = pre.words;
-        long = cleared-long (length p) w₁ keep_long₁ c₁ e₁;
-        unseen = cleared-second (length p) w₁ keep_long₁ c₁ e₁;
-      }
-
       module _ (w₃ : List ℕ) (m₃ : SawWords (length p) k ends occ w₂ w₃) where
-        pub keep-settle-pre : SettlePre (length p) w₃
-        keep-settle-pre = record { few = pre.few; long = m₃.long }
-
         module _ (w₄ : List ℕ) (m₄ : Settled (length p) k w₃ w₄) where
           pub keep_long₄ : length w₄ ≡ length p + length p
           keep_long₄ = m₄.long ∙ m₃.long

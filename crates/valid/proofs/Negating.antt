@@ -10,12 +10,12 @@ use native.Mathlib.Omega.{arith}
 use lib.Dec.{eqb}
 use borrow.Author.Tests.{eq-eqb, ne_eqb, eqb-true, eqb-false}
 use lib.ListN.{length, get_or, set, take, length-set, length-take}
-use lib.Seq.{get_or-set_same, get_or-set_other, get_or-take, take_all}
+use lib.Seq.{get_or-set_same, get_or-set_other, get_or-take}
 use Rattle.seq.specs.Lists.{some_of}
 use Rattle.seq.proofs.Laws.Bools.{bool_cases, bool_false, and_left, and_right, and_false-left, and_false-right, or_right}
 use Rattle.seq.proofs.Laws.Lists.{Entry, some_of-at, some_of-take-suc}
 use Rattle.tree.specs.Rules.{text}
-use Rattle.valid.specs.Inner.Tops.{negates, NegatePre, NegatorsMarked}
+use Rattle.valid.specs.Inner.Tops.{negates, NegatePre}
 
 pub record Negating (l t c w : List ℕ) (i : ℕ) : Type 0 where
   pub within : i ≤ length l
@@ -102,9 +102,3 @@ module _ (l t c : List ℕ) (pre : NegatePre l t c) where
           there v k ne =
               get_or-set_other w e v (length t) 0 ne ∙ s.holds v k
               ∙ ap (λ (b : Bool). cond b (length t) (get_or c v 0)) (sym (same v ne))
-
-  pub negating_end : (w : List ℕ) (i : ℕ) → Negating l t c w i → length l ≤ i → NegatorsMarked l t c w
-  negating_end w i s h = record {
-    long = s.long;
-    holds = λ v k. s.holds v k ∙ ap (λ (z : List ℕ). cond (negates t c z v) (length t) (get_or c v 0)) (take_all i l h);
-  }

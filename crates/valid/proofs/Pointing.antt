@@ -6,71 +6,29 @@
 -- Letters: p parents, n nodes, k words; w₀ rows as lent, w as they are now; l list; v u s nodes, x occurrence, j word, i place in the list.
 use Prim.Native.Nat.{ℕ, zero, suc, zero-le, ◌+◌, ◌-◌, ◌≤◌, ◌<◌}
 use mathlib.Core.Path.{◌≡◌, refl, sym, ap, ap₂, ◌∙◌, subst}
-use mathlib.Core.Logic.{◌⊎◌, inl, inr, ⊎_elim}
+use mathlib.Core.Logic.{◌⊎◌, ⊎_elim}
 use mathlib.Core.List.{List}
 use mathlib.Core.Bool.{Bool, true, false, cond, ◌&&◌, ◌||◌, or-false, or-true}
-use native.Mathlib.Nat.{not-suc-le-zero, le_antisymm}
 use native.Mathlib.Numerals.{add-one}
 use native.Mathlib.Omega.{arith}
 use lib.Dec.{eqb}
-use borrow.Author.Tests.{eq-eqb, ne_eqb, eqb-true, eqb-false, lt-ltb, le-ltb}
+use mir.Val.{bool_byte}
+use borrow.Author.Tests.{eq-eqb, ne_eqb, eqb-true, eqb-false}
 use lib.ListN.{length, get_or, set, take, drop, length-set}
-use lib.Seq.{get_or-set_same, get_or-set_other, take_all}
+use lib.Seq.{get_or-set_same, get_or-set_other}
 use Rattle.seq.specs.Lists.{some_of, EachBelow}
 use Rattle.seq.proofs.Laws.Bools.{bool_cases}
 use Rattle.seq.proofs.Laws.Lists.{some_of_ext, some_of-take-suc}
 use Rattle.seq.proofs.Laws.Loops.{filled_more}
 use Rattle.tree.specs.Tree.{parent}
 use Rattle.tree.specs.Plain.{Down}
-use Rattle.tree.proofs.Laws.Children.{parent-less}
 use Rattle.index.specs.Index.{start}
-use Rattle.index.proofs.Laws.Lists.{part-rises, part-within, part-is, part-below}
-use Rattle.valid.specs.Inner.Tops.{top_above, top_here, top_by, AbovePre, PointPre, Pointed, SeePre, Saw, passed, saw, SeeListPre, points_in, SawList, reached, points, SeeWordsPre, SawWords, flag_here, SettlePre, Settled}
+use Rattle.index.proofs.Laws.Lists.{part-is, part-below}
+use Rattle.valid.specs.Inner.Tops.{top_above, top_here, top_by, PointPre, Saw, passed, saw, SeeListPre, points_in, SawList, reached, points, SeeWordsPre, flag_here, SettlePre}
 use Rattle.valid.proofs.Above.{top_of-first, top_of-suc}
 use Rattle.valid.proofs.Reached.{reached-zero, reached-suc}
 
--- ---- as the code asks
-module _ (m c v a n : ℕ) where
-  pub top-shut : c ≡ n → n + 1 ≡ top_here m c v a n
-  unfolding top_here
-  top-shut e = rw (eq-eqb c n e) (add-one n)
-
-  pub top-under : (c ≡ n → ⊥) → n < a → n + 1 ≡ top_here m c v a n
-  unfolding top_here
-  top-under ne l = rw (ne_eqb c n ne, lt-ltb n a l) (add-one n)
-
-  pub top-me : (c ≡ n → ⊥) → a ≤ n → m ≡ 1 → v ≡ top_here m c v a n
-  unfolding top_here
-  top-me ne l e = rw (ne_eqb c n ne, le-ltb n a l, eq-eqb m 1 e)
-
-  pub top_above_lem : (c ≡ n → ⊥) → a ≤ n → (m ≡ 1 → ⊥) → a ≡ top_here m c v a n
-  unfolding top_here
-  top_above_lem ne l nm = rw (ne_eqb c n ne, le-ltb n a l, ne_eqb m 1 nm)
-
-module _ (s k : ℕ) where
-  pub flag-unseen : (s ≡ k → ⊥) → 0 ≡ flag_here s k
-  unfolding flag_here
-  flag-unseen ne = rw (ne_eqb s k ne)
-
-  pub flag-seen : s ≡ k → 1 ≡ flag_here s k
-  unfolding flag_here
-  flag-seen e = rw (eq-eqb s k e)
-
 -- ---- tops
-module _ (p w : List ℕ) (v : ℕ) (pre : AbovePre p w v) where
-  pub above_root : v ≡ 0 → length p ≡ top_above p w v
-  unfolding top_above
-  above_root e = rw (eq-eqb v 0 e)
-
-  -- u is the parent, as the code has it.
-  module _ (ne : v ≡ 0 → ⊥) (u : ℕ) (eu : u ≡ parent p v) where
-    pub above_place : u < length w
-    above_place = omega (arith, parent-less p (length p) pre.down v (omega arith) pre.node, pre.node, pre.long)
-
-    pub above_parent : get_or w u 0 ≡ top_above p w v
-    unfolding top_above
-    above_parent = rw (ne_eqb v 0 ne) (ap (λ (z : ℕ). get_or w z 0) eu)
-
 -- The top of a node, from the tops before it.
 module _ (p w₀ : List ℕ) (d : Down p (length p)) where
   top-down : (v : ℕ) → v < length p → (w : List ℕ) → ((u : ℕ) → u < v → get_or w u 0 ≡ top_by p w₀ u) →
@@ -86,18 +44,9 @@ pub record Pointing (p w₀ w : List ℕ) (v : ℕ) : Type 0 where
   pub done : (u : ℕ) → u < v → get_or w u 0 ≡ top_by p w₀ u
   pub rest : (u : ℕ) → v ≤ u → get_or w u 0 ≡ get_or w₀ u 0
 
-pub pointing-start : (p w₀ : List ℕ) → Pointing p w₀ w₀ 0
-pointing-start p w₀ = record { within = zero-le; long = refl; done = λ u l. absurd (not-suc-le-zero l); rest = λ u l. refl }
-
 module _ (p w₀ : List ℕ) (pre : PointPre p w₀) (w : List ℕ) (v : ℕ) (s : Pointing p w₀ w v) (h : v < length p) where
-  pub point-place : v < length w
+  point-place : v < length w
   point-place = omega (arith, s.long, pre.long)
-
-  pub point-behind : length p + v < length w
-  point-behind = omega (arith, s.long, pre.long)
-
-  pub point-above-pre : AbovePre p w v
-  point-above-pre = record { few = pre.few; node = h; down = pre.down; long = omega (arith, s.long, pre.long) }
 
   pub pointing-step : (a r : ℕ) → a ≡ top_above p w v → r ≡ top_here (get_or w v 0) (get_or w (length p + v) 0) v a (length p) → Pointing p w₀ (set w v r) (v + 1)
   pointing-step a r ea e = record {
@@ -111,24 +60,6 @@ module _ (p w₀ : List ℕ) (pre : PointPre p w₀) (w : List ℕ) (v : ℕ) (s
       made =
           e ∙ ap₂ (λ (x y : ℕ). top_here x y v a (length p)) (s.rest v (omega arith)) (s.rest (length p + v) (omega arith))
           ∙ ap (λ (z : ℕ). top_here (get_or w₀ v 0) (get_or w₀ (length p + v) 0) v z (length p)) ea ∙ top-down p w₀ pre.down v h w s.done
-
-pub pointing-end : (p w₀ w : List ℕ) (v : ℕ) → Pointing p w₀ w v → length p ≤ v → Pointed p w₀ w
-pointing-end p w₀ w v s h = record { long = s.long; holds = λ u l. s.done u (omega arith) }
-
--- ---- one occurrence: t is its top and at the place of what that one has seen, as the code has them
-module _ (n x j : ℕ) (w : List ℕ) (pre : SeePre n x j w) (t : ℕ) (et : t ≡ get_or w x 0) where
-  pub see-none : n ≤ t → Saw n x j w w
-  see-none h = passed (inl (omega arith)) refl
-
-  module _ (lt : t < n) where
-    pub see-place : n + t < length w
-    see-place = omega (arith, pre.long)
-
-    pub see-passed : (get_or w (n + t) 0 ≡ j → ⊥) → Saw n x j w w
-    see-passed ne = passed (inr (λ q. ne (ap (λ (z : ℕ). get_or w (n + z) 0) et ∙ q))) refl
-
-    pub see_saw : get_or w (n + t) 0 ≡ j → Saw n x j w (set w (n + t) (j + 1))
-    see_saw e = saw (omega arith) (ap (λ (z : ℕ). get_or w (n + z) 0) (sym et) ∙ e) (ap (λ (z : ℕ). set w (n + z) (j + 1)) et)
 
 -- ---- one word
 -- What a node has seen when the first entries of the list have been.
@@ -153,9 +84,6 @@ module _ (n j : ℕ) (l w₀ : List ℕ) (pre : SeeListPre n j l w₀) where
   module _ (w : List ℕ) (i : ℕ) (s : Seeing n j l w₀ w i) (h : i < length l) (x : ℕ) (ex : x ≡ get_or l i 0) where
     see-node : x < n
     see-node = omega (arith, pre.list i h)
-
-    pub see-pre : SeePre n x j w
-    see-pre = record { few = pre.few; node = see-node; word = pre.word; long = s.long }
 
     -- The entry at hand points to its top.
     more : (a : ℕ) → points_in w₀ (take (i + 1) l) a ≡ (points_in w₀ (take i l) a || eqb (get_or w x 0) a)
@@ -218,9 +146,6 @@ module _ (n j : ℕ) (l w₀ : List ℕ) (pre : SeeListPre n j l w₀) where
     seeing-step w' (passed z e) = subst (λ (y : List ℕ). Seeing n j l w₀ y (i + 1)) (sym e) (passing z)
     seeing-step w' (saw lt q e) = subst (λ (y : List ℕ). Seeing n j l w₀ y (i + 1)) (sym e) (sawing lt q)
 
-pub seeing-end : (n j : ℕ) (l w₀ w : List ℕ) (i : ℕ) → Seeing n j l w₀ w i → length l ≤ i → SawList n j l w₀ w
-seeing-end n j l w₀ w i s h = record { long = s.long; tops = s.tops; seen = λ a k. s.seen a k ∙ ap (λ (z : List ℕ). seen_by n j z w₀ a) (take_all i l h) }
-
 -- ---- all words
 pub record Words (n k : ℕ) (ends occ w₀ w : List ℕ) (j begin : ℕ) : Type 0 where
   pub within : j ≤ k
@@ -242,12 +167,6 @@ module _ (n k : ℕ) (ends occ w₀ : List ℕ) (pre : SeeWordsPre n k ends occ 
 
   -- `to` is the word's end, as the code has it.
   module _ (w : List ℕ) (j begin : ℕ) (s : Words n k ends occ w₀ w j begin) (h : j < k) (to : ℕ) (e : to ≡ get_or ends j 0) where
-    pub words-rise : begin ≤ to
-    words-rise = part-rises n ends occ j begin to (pre.words j h) s.begins e
-
-    pub words-within : to ≤ length occ
-    words-within = part-within n ends occ j begin to (pre.words j h) s.begins e
-
     -- The word's list, as the code takes it.
     abbrev pub part : List ℕ
     part = take (to - begin) (drop begin occ)
@@ -274,32 +193,25 @@ module _ (n k : ℕ) (ends occ w₀ : List ℕ) (pre : SeeWordsPre n k ends occ 
         same : (a : ℕ) → points_in w part a ≡ points w₀ ends occ a j
         same a = some_of_ext _ _ n part below (λ x l. ap (λ (z : ℕ). eqb z a) (s.tops x l)) ∙ ap (λ (z : List ℕ). points_in w₀ z a) (sym (part-is n ends occ j begin to (pre.words j h) s.begins e))
 
-  pub words-end : (w : List ℕ) (j begin : ℕ) → Words n k ends occ w₀ w j begin → k ≤ j → SawWords n k ends occ w₀ w
-  words-end w j begin s h = record {
-    long = s.long;
-    tops = s.tops;
-    seen = λ a l. s.seen a l ∙ ap (reached (points w₀ ends occ a)) (le_antisymm s.within h);
-  }
-
 -- ---- the flags
+-- A flag as the code makes it.
+pub flag-bit : (s k : ℕ) → bool_byte (eqb s k) ≡ flag_here s k
+unfolding flag_here
+flag-bit s k = bit (eqb s k)
+  where
+    bit : (b : Bool) → bool_byte b ≡ cond b 1 0
+    bit true = refl
+    bit false = refl
+
 pub record Settling (n k : ℕ) (w₀ w : List ℕ) (v : ℕ) : Type 0 where
   pub within : v ≤ n
   pub long : length w ≡ length w₀
   pub done : (u : ℕ) → u < v → get_or w u 0 ≡ flag_here (get_or w₀ (n + u) 0) k
   pub rest : (u : ℕ) → v ≤ u → get_or w u 0 ≡ get_or w₀ u 0
 
-pub settling-start : (n k : ℕ) (w₀ : List ℕ) → Settling n k w₀ w₀ 0
-settling-start n k w₀ = record { within = zero-le; long = refl; done = λ u l. absurd (none u l); rest = λ u l. refl }
-  where
-    none : (u : ℕ) → u < 0 → ⊥
-    none u l = omega arith
-
 module _ (n k : ℕ) (w₀ w : List ℕ) (v : ℕ) (pre : SettlePre n w₀) (s : Settling n k w₀ w v) (h : v < n) where
   pub settle-place : v < length w
   settle-place = omega (arith, s.long, pre.long)
-
-  pub settle-behind : n + v < length w
-  settle-behind = omega (arith, s.long, pre.long)
 
   pub settling-step : (r : ℕ) → r ≡ flag_here (get_or w (n + v) 0) k → Settling n k w₀ (set w v r) (v + 1)
   settling-step r e = record {
@@ -308,6 +220,3 @@ module _ (n k : ℕ) (w₀ w : List ℕ) (v : ℕ) (pre : SettlePre n w₀) (s :
     done = filled_more (λ u. flag_here (get_or w₀ (n + u) 0) k) w v r s.done settle-place (e ∙ ap (λ (y : ℕ). flag_here y k) (s.rest (n + v) (omega arith)));
     rest = λ a l. get_or-set_other w v a r 0 (λ (q : a ≡ v). omega arith) ∙ s.rest a (omega arith);
   }
-
-pub settling-end : (n k : ℕ) (w₀ w : List ℕ) (v : ℕ) → Settling n k w₀ w v → n ≤ v → Settled n k w₀ w
-settling-end n k w₀ w v s h = record { long = s.long; holds = λ u l. s.done u (omega arith) }

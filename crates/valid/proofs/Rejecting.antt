@@ -40,7 +40,7 @@ use Rattle.valid.specs.Inner.Steps.{valid_flag, RejectPre, Rejected}
 use Rattle.valid.specs.Inner.Tops.{negates, NegatePre, NegatorsMarked, flag_here, kept_flag, KeepPre, Kept}
 use Rattle.valid.proofs.Above.{top_of_ext}
 use Rattle.valid.proofs.Reached.{reached_ext}
-use Rattle.valid.proofs.Stretch.{stretch-some, stretch-within, stretch-below}
+use Rattle.valid.proofs.Stretch.{stretch-some, stretch-below}
 use Rattle.valid.proofs.Validity.{flag-valid}
 
 -- ---- closest entities
@@ -86,9 +86,6 @@ module _ (p t : List ℕ) (k : ℕ) (ends occ w : List ℕ) (pre : RejectPre p t
     where
       three : length w - n ≡ n * 3
       three = omega (arith, pre.long)
-
-  pub reject-start : n ≤ length w
-  reject-start = omega (arith, pre.long)
 
   module _ (a₁ : List ℕ) (e₁ : a₁ ≡ closest_rows p t rest) where
     abbrev w₁ : List ℕ
@@ -147,9 +144,6 @@ module _ (p t : List ℕ) (k : ℕ) (ends occ w : List ℕ) (pre : RejectPre p t
 
       abbrev lists : List ℕ
       lists = take (length occ - begin) (drop begin occ)
-
-      pub reject-within : begin ≤ length occ
-      reject-within = stretch-within n ends occ pre.words k (length ends - k) all pre.some_positive begin eb
 
       lists-below : EachBelow n lists
       lists-below = stretch-below n ends occ pre.words k (length ends - k) all pre.some_positive begin eb

@@ -80,9 +80,6 @@ module _ (n : ℕ) (ends occ : List ℕ) (words : (j : ℕ) → j < length ends 
     pub stretch-some : (f : ℕ → Bool) → some_of f stretch ≡ some_below m (λ j. some_of f (word_list ends occ (k + j)))
     stretch-some f = ap (some_of f) stretch-part ∙ part-some f m (omega arith)
 
-    pub stretch-within : begin ≤ length occ
-    stretch-within = omega (arith, begins (k - 1) (one_less k some), rises m (omega arith), ap (start ends) all, ends_at (length ends - 1) (sym (one_less (length ends) (omega arith))))
-
     pub stretch-below : EachBelow n stretch
     stretch-below i l = ⊎_elim (λ q. ltb-true _ n q) (λ q. absurd (outside q)) (bool_cases (ltb (get_or stretch i 0) n))
       where

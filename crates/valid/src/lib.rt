@@ -19,15 +19,13 @@ fn mark(list: &[u32], tags: &[u32], row: &mut [u32])
     requires { NegatePre list.now tags.now row.old }
     ensures { NegatorsMarked list.now tags.now row.old row.new }
 {
-    let n = tags.len();
-    let mut i: usize = 0;
-    while i < list.len() {
-        let x = seq::widen(list[i]);
+    let n = tags.len() as u32;
+    for x in list {
+        let x = *x as usize;
         if tags[x] == 0 {
-            let c = seq::widen(row[x]);
-            row[c] = n as u32;
+            let c = row[x] as usize;
+            row[c] = n;
         }
-        i += 1;
     }
 }
 
@@ -46,7 +44,7 @@ fn reject(
 {
     let n = parents.len();
     entities::find_closest(parents, tags, &mut rows[n..]);
-    let from = seq::widen(ends[p - 1]);
+    let from = ends[p - 1] as usize;
     mark(&occurrences[from..], tags, &mut rows[n..n * 2]);
     keep(parents, p, ends, occurrences, &mut rows[..n * 2]);
 }
@@ -86,16 +84,15 @@ pub fn valid(
         return r;
     }
     let n = parents.len();
-    if q == 0 {
-        return finish(n, &mut *work, out);
+    if q > 0 {
+        reject(
+            parents,
+            tags,
+            p as usize,
+            ends,
+            occurrences,
+            &mut work[..n * 4],
+        );
     }
-    reject(
-        parents,
-        tags,
-        seq::widen(p),
-        ends,
-        occurrences,
-        &mut work[..n * 4],
-    );
-    finish(n, &mut *work, out)
+    finish(n, work, out)
 }

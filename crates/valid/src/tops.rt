@@ -1,23 +1,20 @@
 // Tops: for each node the SLCA at or above it, and which of them every positive word points to by a valid occurrence.
 // Two rows of n entries are lent as one slice: entry v is the first row's, entry n + v the second's.
 ghost use Rattle.std.specs.Prelude.{◌≡◌, ◌≤◌};
-ghost use Rattle.valid.specs.Inner.Tops.{top_here, AbovePre, top_above, PointPre, Pointed, SeePre, Saw, SeeListPre, SawList, SeeWordsPre, SawWords, flag_here, SettlePre, Settled, KeepPre, Kept};
+ghost use Rattle.valid.specs.Inner.Tops.{top_here, AbovePre, top_above, PointPre, Pointed, SeePre, Saw, SeeListPre, SawList, SeeWordsPre, SawWords, SettlePre, Settled, KeepPre, Kept};
 
 // The top of a node: n + 1 if it is a negator or its parent has that, else the node itself if it is marked, else the top of its parent.
 fn top_here(mark: u32, shut: u32, me: u32, above: u32, n: u32) -> u32
     requires { n ≤ 65536 }
     ensures { result ≡ top_here mark shut me above n }
 {
-    if shut == n {
-        return n + 1;
+    if shut == n || n < above {
+        n + 1
+    } else if mark == 1 {
+        me
+    } else {
+        above
     }
-    if n < above {
-        return n + 1;
-    }
-    if mark == 1 {
-        return me;
-    }
-    above
 }
 
 // The top of a node's parent, as the first row has it; n above the root.
@@ -26,10 +23,10 @@ fn top_above(parents: &[u32], rows: &[u32], v: usize) -> u32
     ensures { result ≡ top_above parents.now rows.now v }
 {
     if v == 0 {
-        return parents.len() as u32;
+        parents.len() as u32
+    } else {
+        rows[parents[v] as usize]
     }
-    let up = seq::widen(parents[v]);
-    rows[up]
 }
 
 // From marks in the first row and negators in the second: the top of each node in the first.
@@ -38,11 +35,9 @@ fn point(parents: &[u32], rows: &mut [u32])
     ensures { Pointed parents.now rows.old rows.new }
 {
     let n = parents.len();
-    let mut v: usize = 0;
-    while v < n {
+    for v in 0..n {
         let above = top_above(parents, &*rows, v);
         rows[v] = top_here(rows[v], rows[n + v], v as u32, above, n as u32);
-        v += 1;
     }
 }
 
@@ -51,15 +46,10 @@ fn see(x: usize, j: u32, n: usize, rows: &mut [u32])
     requires { SeePre n x j rows.old }
     ensures { Saw n x j rows.old rows.new }
 {
-    let top = seq::widen(rows[x]);
-    if n <= top {
-        return;
+    let top = rows[x] as usize;
+    if top < n && rows[n + top] == j {
+        rows[n + top] = j + 1;
     }
-    let at = n + top;
-    if rows[at] != j {
-        return;
-    }
-    rows[at] = j + 1;
 }
 
 // All occurrences of word j.
@@ -67,11 +57,8 @@ fn see_list(list: &[u32], j: u32, n: usize, rows: &mut [u32])
     requires { SeeListPre n j list.now rows.old }
     ensures { SawList n j list.now rows.old rows.new }
 {
-    let mut i: usize = 0;
-    while i < list.len() {
-        let x = seq::widen(list[i]);
-        see(x, j, n, &mut *rows);
-        i += 1;
+    for x in list {
+        see(*x as usize, j, n, &mut *rows);
     }
 }
 
@@ -80,35 +67,21 @@ fn see_words(ends: &[u32], occurrences: &[u32], p: usize, n: usize, rows: &mut [
     requires { SeeWordsPre n p ends.now occurrences.now rows.old }
     ensures { SawWords n p ends.now occurrences.now rows.old rows.new }
 {
-    let mut j: usize = 0;
     let mut from: usize = 0;
-    while j < p {
-        let to = seq::widen(ends[j]);
+    for j in 0..p {
+        let to = ends[j] as usize;
         see_list(&occurrences[from..to], j as u32, n, &mut *rows);
         from = to;
-        j += 1;
     }
 }
 
-// 1 where a node has seen all p words.
-fn flag_here(seen: u32, p: u32) -> u32
-    ensures { result ≡ flag_here seen p }
-{
-    if seen == p {
-        return 1;
-    }
-    0
-}
-
-// From words seen in the second row: the flags in the first.
+// From words seen in the second row: the flags in the first, 1 where a node has seen all p words.
 fn settle(n: usize, p: u32, rows: &mut [u32])
     requires { SettlePre n rows.old }
     ensures { Settled n p rows.old rows.new }
 {
-    let mut v: usize = 0;
-    while v < n {
-        rows[v] = flag_here(rows[n + v], p);
-        v += 1;
+    for v in 0..n {
+        rows[v] = u32::from(rows[n + v] == p);
     }
 }
 

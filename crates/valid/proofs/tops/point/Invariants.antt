@@ -1,11 +1,6 @@
 -- `valid::tops::point` meets its contract: glue over Pointing.
-use Prim.Native.Nat.{◌-◌}
-use lib.ListN.{length}
 use Rattle.valid.proofs.Pointing.{Pointing}
 use Rattle.valid.proofs.tops.point.Given as goal
 
 abbrev pub invariant-loop-v : goal.invariant-loop-v
 invariant-loop-v l = Pointing l.parents l.initial.rows l.rows l.v
-
-abbrev pub decreases-loop-v : goal.decreases-loop-v
-decreases-loop-v l = length l.parents - l.v

@@ -1,10 +1,6 @@
 -- `valid::tops::see_words` meets its contract: glue over Pointing.
-use Prim.Native.Nat.{◌-◌}
 use Rattle.valid.proofs.Pointing.{Words}
 use Rattle.valid.proofs.tops.see_words.Given as goal
 
 abbrev pub invariant-loop-j : goal.invariant-loop-j
 invariant-loop-j l = Words l.n l.p l.ends l.occurrences l.initial.rows l.rows l.j l.from
-
-abbrev pub decreases-loop-j : goal.decreases-loop-j
-decreases-loop-j l = l.p - l.j

@@ -1,10 +1,6 @@
 -- `valid::tops::settle` meets its contract: glue over Pointing.
-use Prim.Native.Nat.{◌-◌}
 use Rattle.valid.proofs.Pointing.{Settling}
 use Rattle.valid.proofs.tops.settle.Given as goal
 
 abbrev pub invariant-loop-v : goal.invariant-loop-v
 invariant-loop-v l = Settling l.n l.p l.initial.rows l.rows l.v
-
-abbrev pub decreases-loop-v : goal.decreases-loop-v
-decreases-loop-v l = l.n - l.v
