@@ -6,12 +6,13 @@
 mod tops;
 
 ghost use Rattle.std.specs.Prelude.{◌≤◌, length};
-ghost use Rattle.index.specs.Promises.{lent};
+ghost use Rattle.index.specs.Promises.{index_of};
+ghost use Rattle.index.specs.Replies.{reply_of};
 ghost use Rattle.valid.specs.Promises.{ValidSearched};
 ghost use Rattle.valid.specs.Inner.Steps.{RejectPre, Rejected, Finished};
 ghost use Rattle.valid.specs.Inner.Tops.{NegatePre, NegatorsMarked};
 
-use index::Reply;
+use index::{Lent, Refusal};
 use tops::keep;
 
 // Over the closest entity of each node: n at the closest entity of each text node of the list. That makes it a negator.
@@ -31,68 +32,41 @@ fn mark(list: &[u32], tags: &[u32], row: &mut [u32])
 
 // From the marks of the SLCAs of p positive words in the first of four rows: 1 at each valid SLCA, 0 elsewhere. The other rows end as 0.
 // The lists of the negative words stand behind those of the positive ones, so they are one stretch of the occurrences.
-fn reject(
-    parents: &[u32],
-    tags: &[u32],
-    p: usize,
-    ends: &[u32],
-    occurrences: &[u32],
-    rows: &mut [u32],
-)
-    requires { RejectPre parents.now tags.now p ends.now occurrences.now rows.old }
-    ensures { Rejected parents.now tags.now p ends.now occurrences.now rows.new }
+fn reject(lent: Lent, rows: &mut [u32])
+    requires { RejectPre lent.parents.now lent.tags.now lent.positive lent.ends.now lent.occurrences.now rows.old }
+    ensures { Rejected lent.entry.parents.now lent.entry.tags.now lent.entry.positive lent.entry.ends.now lent.entry.occurrences.now rows.new }
 {
-    let n = parents.len();
-    entities::find_closest(parents, tags, &mut rows[n..]);
-    let from = ends[p - 1] as usize;
-    mark(&occurrences[from..], tags, &mut rows[n..n * 2]);
-    keep(parents, p, ends, occurrences, &mut rows[..n * 2]);
+    let n = lent.parents.len();
+    let p = lent.positive as usize;
+    entities::find_closest(lent.parents, lent.tags, &mut rows[n..]);
+    let from = lent.ends[p - 1] as usize;
+    mark(&lent.occurrences[from..], lent.tags, &mut rows[n..n * 2]);
+    keep(lent.parents, p, lent.ends, lent.occurrences, &mut rows[..n * 2]);
 }
 
 // Lists the nodes that are flagged in the first n entries of work, and clears these.
-fn finish(n: usize, work: &mut [u32], out: &mut [u32]) -> Reply
+fn finish(n: usize, work: &mut [u32], out: &mut [u32]) -> Result<u32, Refusal>
     requires { n ≤ length work.old }
-    ensures { Finished n work.old out.old result work.new out.new }
+    ensures { Finished n work.old out.old (reply_of result) work.new out.new }
 {
     let answer = listing::list_flagged(&work[..n], out);
     seq::clear(&mut work[..n]);
     answer
 }
 
-// The valid SLCAs of p positive and q negative words, in increasing number, in out.
-//   1 SIZE, 2 TREE, 3 LIST, 4 COUNT   as the index check has them; SIZE touches nothing
-//   5 ROOM   out is shorter than the answer; place 0, total: the answers needed
-//   0        place 0, total: the answers, which are written over the front of out; later entries stay
-// Any refusal keeps out as lent. Under every reply but SIZE the first (p + q + 2)·n entries of work end as 0, and the rest is untouched.
+// The valid SLCAs of p positive and q negative words, in increasing number, in out; n nodes.
+//   Size, Tree, List, Count  as the index check has them; Size touches nothing
+//   Room(m)                  out is shorter than the m answers
+//   Ok(m)                    the m answers are written over the front of out; later entries stay
+// Any refusal keeps out as lent. Under every answer but Size the first (p + q + 2)·n entries of work end as 0, and the rest is untouched.
 // Without a negative word every SLCA is valid; with one there are four rows of work at least.
-pub fn valid(
-    parents: &[u32],
-    tags: &[u32],
-    p: u32,
-    q: u32,
-    ends: &[u32],
-    occurrences: &[u32],
-    counts: &[u32],
-    work: &mut [u32],
-    out: &mut [u32],
-) -> Reply
-    ensures { ValidSearched (lent parents.now tags.now p q ends.now occurrences.now
-        counts.now) work.old out.old result work.new out.new }
+pub fn valid(lent: Lent, work: &mut [u32], out: &mut [u32]) -> Result<u32, Refusal>
+    ensures { ValidSearched (index_of lent.entry) work.old out.old (reply_of result) work.new out.new }
 {
-    let r = slca::flag_slca(parents, tags, p, q, ends, occurrences, counts, &mut *work);
-    if r.refusal != index::ACCEPTED {
-        return r;
-    }
-    let n = parents.len();
-    if q > 0 {
-        reject(
-            parents,
-            tags,
-            p as usize,
-            ends,
-            occurrences,
-            &mut work[..n * 4],
-        );
+    slca::flag_slca(lent, &mut *work)?;
+    let n = lent.parents.len();
+    if lent.negative > 0 {
+        reject(lent, &mut work[..n * 4]);
     }
     finish(n, work, out)
 }
