@@ -2,13 +2,14 @@
 -- In work, the count check keeps the sums of a node side by side: word j's sum at node v is entry v * k + j.
 --   cell k w v j      == word j's sum at node v in work w
 --   Cells n k f w     == w holds f v j for each node v below n and each word j below k, and nothing else
--- Letters: p parents, cs counts, l list, w work; n nodes, k words; j word, v node. Assumes nothing.
-use Rattle.std.specs.Prelude.{ℕ, ◌+◌, ◌*◌, ◌≤◌, ◌<◌, ◌^◌, ◌≡◌, List, cond, eqb, length, get_or, replicate}
-use Rattle.seq.specs.Below.{sum_below}
+--   same cs n k w e   == entry e of counts is its sum in work
+-- Letters: I index, p parents, cs counts, l list, w work; n nodes, k words; j word, v node, e entry. Assumes nothing.
+use Rattle.std.specs.Prelude.{ℕ, ◌+◌, ◌*◌, ◌/◌, ◌%◌, ◌≤◌, ◌<◌, ◌^◌, ◌≡◌, List, Option, Bool, cond, eqb, length, get_or, replicate}
+use Rattle.seq.specs.Below.{sum_below, Lowest}
 use Rattle.seq.specs.Lists.{tally, EachBelow}
 use Rattle.tree.specs.Plain.{Down, Lawful}
-use Rattle.index.specs.Index.{start}
-use Rattle.index.specs.Rules.{counts_bad}
+use Rattle.index.specs.Index.{Index, nodes, start}
+use Rattle.index.specs.Rules.{count_ok}
 use Rattle.index.specs.Plain.{WordKept}
 
 -- ---- the list check
@@ -59,27 +60,25 @@ pub record SumPre (p : List ℕ) (k : ℕ) (w : List ℕ) : Type 0 where
   pub small : length p * k ≤ 524288
   pub fits : (j : ℕ) → j < k → sum_below (length p) (λ u. cell k w u j) < 2 ^ 32
 
-pub record RowBadPre (n k j : ℕ) (row w : List ℕ) : Type 0 where
-  pub word : j < k
-  pub long : length w ≡ n * k
-  pub small : n * k ≤ 524288
-  pub rowed : length row ≡ n
-
 pub record GridBadPre (n k : ℕ) (cs w : List ℕ) : Type 0 where
   pub nodes : 1 ≤ n
   pub long : length w ≡ n * k
   pub small : n * k ≤ 524288
   pub counted : length cs ≡ k * n
 
-pub record CountsBadPre (p t ends occ cs w : List ℕ) : Type 0 where
-  pub nodes : 1 ≤ length p
-  pub tree : Lawful p t
-  pub words : (j : ℕ) → j < length ends → WordKept (length p) ends occ j
-  pub counted : length cs ≡ length ends * length p
-  pub zeros : w ≡ replicate (length p * length ends) 0
-  pub small : length p * length ends ≤ 524288
+-- Entry e is its sum: that of word e / n at node e % n.
+abbrev pub same : List ℕ → ℕ → ℕ → List ℕ → ℕ → Bool
+same cs n k w e = eqb (get_or cs e 0) (cell k w (e % n) (e / n))
+
+pub record CountsBadPre (I : Index) (w : List ℕ) : Type 0 where
+  pub some_nodes : 1 ≤ nodes I
+  pub tree : Lawful I.parents I.tags
+  pub words : (j : ℕ) → j < length I.ends → WordKept (nodes I) I.ends I.occurrences j
+  pub counted : length I.counts ≡ length I.ends * nodes I
+  pub zeros : w ≡ replicate (nodes I * length I.ends) 0
+  pub small : nodes I * length I.ends ≤ 524288
 
 -- The lowest wrong entry, and work is as it was.
-pub record Counted (p ends occ cs w : List ℕ) (r : ℕ) (w' : List ℕ) : Type 0 where
-  pub place : r ≡ counts_bad p ends occ cs
+pub record Counted (I : Index) (w : List ℕ) (r : Option ℕ) (w' : List ℕ) : Type 0 where
+  pub place : Lowest (length I.ends * nodes I) (count_ok I.parents I.ends I.occurrences I.counts) r
   pub work : w' ≡ w

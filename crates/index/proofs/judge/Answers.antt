@@ -42,27 +42,26 @@ pub slice_bounds-counts_bad-end-2 : goal.slice_bounds-counts_bad-end-2
 slice_bounds-counts_bad-end-2 c =
     sums-take _ c.args.work.now c.requires _ c.clear.ensures
 
-pub counts_bad-bad_entry-requires : goal.counts_bad-bad_entry-requires
-counts_bad-bad_entry-requires c =
+pub counts_bad-requires : goal.counts_bad-requires
+counts_bad-requires c =
     count-pre _ c.args.work.now c.requires _ c.clear.ensures
     (omega (arith, c.tree_bad-bad_node.ensures, c.if-bad_node-n.false)) (omega (arith, c.lists_bad-bad_word.ensures, c.if-bad_word-k.false))
 
-pub overflow_cast-result-then-bad_entry-lent : goal.overflow_cast-result-then-bad_entry-lent
-overflow_cast-result-then-bad_entry-lent c =
-    omega (arith, c.if-bad_entry-lent.true, counts-small _ c.args.work.now c.requires)
+pub overflow_cast-result-in-Some : goal.overflow_cast-result-in-Some
+overflow_cast-result-in-Some c = omega (arith, c.in-Some.ensures.place.0, counts-small _ c.args.work.now c.requires)
 
-pub returns-then-bad_entry-lent : goal.returns-then-bad_entry-lent
-returns-then-bad_entry-lent c =
+pub returns-in-Some : goal.returns-in-Some
+returns-in-Some c =
     record {
       reply = reply-count _ c.args.work.now c.requires _ c.tree_bad-bad_node.ensures c.if-bad_node-n.false _ c.lists_bad-bad_word.ensures
-          c.if-bad_word-k.false _ c.counts_bad-bad_entry.ensures.place c.if-bad_entry-lent.true;
-      work = kept-work _ c.args.work.now c.requires _ c.clear.ensures _ c.counts_bad-bad_entry.ensures.work;
+          c.if-bad_word-k.false _ c.in-Some.ensures.place;
+      work = kept-work _ c.args.work.now c.requires _ c.clear.ensures _ c.in-Some.ensures.work;
     }
 
 pub returns : goal.returns
 returns c =
     record {
       reply = reply-clean _ c.args.work.now c.requires _ c.tree_bad-bad_node.ensures c.if-bad_node-n.false _ c.lists_bad-bad_word.ensures
-          c.if-bad_word-k.false _ c.counts_bad-bad_entry.ensures.place c.if-bad_entry-lent.false;
-      work = kept-work _ c.args.work.now c.requires _ c.clear.ensures _ c.counts_bad-bad_entry.ensures.work;
+          c.if-bad_word-k.false c.in_default.ensures.place;
+      work = kept-work _ c.args.work.now c.requires _ c.clear.ensures _ c.in_default.ensures.work;
     }
