@@ -4,7 +4,6 @@ use Prim.Native.Nat.{ℕ, ◌+◌, ◌-◌, ◌*◌, ◌≤◌, ◌<◌}
 use mathlib.Core.Path.{◌≡◌, refl, sym, ap, ap₂, ◌∙◌}
 use mathlib.Core.List.{List, [], ◌∷◌}
 use mathlib.Core.Bool.{Bool, true, false, cond}
-use native.Mathlib.Nat.{mul-le-mul_right}
 use native.Mathlib.Omega.{arith}
 use lib.Dec.{eqb, leb}
 use borrow.Author.Tests.{le-leb, lt-leb}
@@ -57,9 +56,6 @@ module _ (n k : ℕ) (cs w : List ℕ) (pre : PutPre n k cs w) where
 
     pub few : m ≤ 65536
     few = omega (arith, answers-are, listed_le n is_listed, pre.few_nodes)
-
-    pub few-own : m * k ≤ 524288
-    few-own = omega (arith, few, pre.few_words, mul-le-mul_right {m = m} {n = 65536} k few)
 
     module _ (o s : List ℕ) where
       short : both_fit k m o s ≡ false → Answered n k is_listed (own_diff cs n k w) o s (totalled ROOM m) o s

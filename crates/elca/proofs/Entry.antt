@@ -1,7 +1,7 @@
 -- From the index check to the search and back: the outcome of a call in each case. Assumes nothing.
--- Letters: I index; w, o, s what is lent as work, out and own; k the number of words as the code has it.
+-- Letters: I index; w, o, s what is lent as work, out and own; k the number of words.
 use Prim.Native.Nat.{ℕ, ◌+◌, ◌-◌, ◌*◌, ◌≤◌, ◌<◌, ◌^◌}
-use mathlib.Core.Path.{◌≡◌, sym, ap, ap₂, ◌∙◌, subst}
+use mathlib.Core.Path.{◌≡◌, sym, ap, ap₂, ◌∙◌}
 use mathlib.Core.List.{List, ◌++◌}
 use mathlib.Core.Bool.{Bool, cond, ◌&&◌}
 use native.Mathlib.Nat.{mul_comm, mul-le-mul_right}
@@ -86,7 +86,10 @@ module _ (I : Index) (w o s : List ℕ) where
         refused-keeps r
         (none-checked I z (length w) _ ∙ checked_refused I w _ (λ q. ne (ap (λ (x : Reply). x.refusal) c.reply ∙ q)) ∙ sym c.reply) ne w₁ (c.work ∙ sym (none-work I z w))
 
-    module _ (e : r.refusal ≡ accepted) (k : ℕ) (ek : k ≡ I.positive) (u : (i : ℕ) → get_or I.counts i 0 < 2 ^ 32) where
+    module _ (e : r.refusal ≡ accepted) (u : (i : ℕ) → get_or I.counts i 0 < 2 ^ 32) where
+      abbrev k : ℕ
+      k = I.positive
+
       size : Sized 8 I (length w)
       size = (checked-right I w r w₁ c e).0
 
@@ -145,20 +148,16 @@ module _ (I : Index) (w o s : List ℕ) where
         where
           held_fits : (v j : ℕ) → v < nodes I → j < I.positive → held_full I.parents I.counts k v j ≤ get_or I.counts (j * nodes I + v) 0
           held_fits v j a b =
-              omega (arith, ap (λ (x : ℕ). held_full I.parents I.counts x v j) ek, held_by_lem I right some v j b, held_below I right some v j a b)
+              omega (arith, held_by_lem I right some v j b, held_below I right some v j a b)
 
       -- The answers are 01's.
       module _ (r' : Reply) (w₂ o' s' : List ℕ) (f : ElcaFound I.parents I.counts k (take used w₁) o s r' w₂ o' s') where
         answers_01 : Answered (nodes I) I.positive (is_elca I) (own_count I.parents I.positive (wanted I)) o s r' o' s'
         answers_01 =
-            answered_ext (nodes I) I.positive _ _ _ _ (elca-is I right some) (own_is I right some) o s r' o' s'
-            (subst (λ (x : ℕ). Answered (nodes I) x (elca_by I.parents I.counts x) (own_by I.parents I.counts x) o s r' o' s') ek f.answers)
+            answered_ext (nodes I) I.positive _ _ _ _ (elca-is I right some) (own_is I right some) o s r' o' s' f.answers
 
         whole-work : w₂ ++ drop used w₁ ≡ work_after 0 I w
         whole-work = ap (λ (t : List ℕ). t ++ drop used w₁) f.work ∙ take-append-drop used w₁ ∙ c.work ∙ sym (none-work I z w)
-
-        pub elca-length : length (w₂ ++ drop used w₁) ≡ length w
-        elca-length = ap length whole-work ∙ work-length 0 I w
 
         own-length : length (own_of I (is_elca I)) ≡ length (listed (nodes I) (is_elca I)) * I.positive
         unfolding own_of

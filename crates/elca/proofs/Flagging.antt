@@ -1,7 +1,7 @@
 -- Flagging the nodes whose counts are above what their full children hold: what the loops know, and how a turn keeps it. Assumes nothing.
 -- Letters: cs counts, w₀ work as lent, w as it is now; n nodes, k words; v node, j word.
 use Prim.Native.Nat.{ℕ, zero-le, ◌+◌, ◌*◌, ◌≤◌, ◌<◌}
-use mathlib.Core.Path.{◌≡◌, refl, sym, ap, ◌∙◌}
+use mathlib.Core.Path.{◌≡◌, refl, ap, ◌∙◌}
 use mathlib.Core.List.{List}
 use mathlib.Core.Bool.{Bool, cond}
 use native.Mathlib.Omega.{arith}
@@ -17,13 +17,9 @@ use Rattle.elca.specs.Inner.Steps.{Grid, NodePre}
 use Rattle.elca.proofs.Laws.{flag_in_lem, cell-keeps}
 
 -- ---- one node
--- Word j's count at v, entry e of counts, is above what stands in work for it.
-abbrev pub is_above : List ℕ → ℕ → List ℕ → ℕ → ℕ → ℕ → Bool
-is_above cs k w v j e = ltb (cell k w v j) (get_or cs e 0)
-
-pub above-is : (cs : List ℕ) (n k : ℕ) (w : List ℕ) (v : ℕ) (b : Bool) → every_below k (λ j. is_above cs k w v j (j * n + v)) ≡ b → b ≡ above_held cs n k w v
+pub above-is : (cs : List ℕ) (n k : ℕ) (w : List ℕ) (v : ℕ) (b : Bool) → b ≡ every_below k (λ j. ltb (cell k w v j) (get_or cs (j * n + v) 0)) → b ≡ above_held cs n k w v
 unfolding above_held
-above-is cs n k w v b e = sym e
+above-is cs n k w v b e = e
 
 -- ---- all nodes
 pub record Flagging (n k : ℕ) (cs w₀ w : List ℕ) (v : ℕ) : Type 0 where

@@ -2,12 +2,12 @@
 --   Giving    the loop over the words, from one child to its parent
 --   Taking    the loop over the nodes
 -- Letters: p parents, cs counts, w₀ work as lent, w as it is now; n nodes, k words; v node, c child, j word.
-use Prim.Native.Nat.{ℕ, zero-le, ◌+◌, ◌*◌, ◌≤◌, ◌<◌, ◌^◌}
+use Prim.Native.Nat.{ℕ, zero-le, ◌+◌, ◌*◌, ◌≤◌, ◌<◌}
 use mathlib.Core.Path.{◌≡◌, refl, sym, ap, ap₂, ◌∙◌}
 use mathlib.Core.Logic.{⊎_elim}
 use mathlib.Core.List.{List}
 use mathlib.Core.Bool.{Bool, true, false, not, cond, ◌&&◌, and-false, and-true}
-use native.Mathlib.Nat.{eq-or-lt_of_le, add-zero, zero-mul, le_antisymm}
+use native.Mathlib.Nat.{eq-or-lt_of_le, add-zero, le_antisymm}
 use native.Mathlib.Numerals.{add-one}
 use native.Mathlib.Omega.{arith}
 use borrow.Author.Tests.{lt-ltb, le-ltb, eq-eqb, ne_eqb}
@@ -15,7 +15,7 @@ use lib.Dec.{eqb, ltb}
 use lib.ListN.{length, get_or, set, length-set}
 use Rattle.seq.specs.Below.{sum_below}
 use Rattle.seq.proofs.Laws.Bools.{cond_le}
-use Rattle.seq.proofs.Laws.Numbers.{less_or, row_next}
+use Rattle.seq.proofs.Laws.Numbers.{less_or}
 use Rattle.seq.proofs.Laws.Sums.{sum-zero, sum-suc, sum_le, sum_mono}
 use Rattle.tree.specs.Tree.{parent, child}
 use Rattle.tree.proofs.Laws.Children.{child-root, child-of, parent-less}
@@ -23,19 +23,17 @@ use Rattle.index.specs.Inner.{cell}
 use Rattle.index.proofs.Laws.Cells.{cell-add}
 use Rattle.elca.specs.Inner.Rows.{flag_at, held_by, SumsAndFlags}
 use Rattle.elca.specs.Inner.Steps.{Grid, GivePre, given, TakeOffPre, is_flagged}
-use Rattle.elca.proofs.Laws.{sum_in, count_in_lem, flag-keeps}
+use Rattle.elca.proofs.Laws.{sum_in, flag-keeps}
 
 -- ---- from one child to its parent
--- The first j words' counts are given; the count at hand is entry `at` of counts.
-pub record Giving (n k c up : ℕ) (cs w₀ w : List ℕ) (j at : ℕ) : Type 0 where
+-- The first j words' counts are given.
+pub record Giving (n k c up : ℕ) (cs w₀ w : List ℕ) (j : ℕ) : Type 0 where
   pub words : j ≤ k
-  pub place : at ≡ j * n + c
   pub rows : SumsAndFlags n k (λ v i. cell k w₀ v i + cond (eqb v up && ltb i j) (get_or cs (i * n + c) 0) 0) (flag_at n k w₀) w
 
-pub giving_start : (n k c up : ℕ) (cs w : List ℕ) → GivePre n k c up cs w → Giving n k c up cs w w 0 c
+pub giving_start : (n k c up : ℕ) (cs w : List ℕ) → GivePre n k c up cs w → Giving n k c up cs w w 0
 giving_start n k c up cs w pre = record {
   words = zero-le;
-  place = omega (arith, zero-mul n);
   rows = record {
     long = pre.grid.long;
     cells = λ v i a b. sym (ap (λ (z : Bool). cell k w v i + cond (eqb v up && z) (get_or cs (i * n + c) 0) 0) (le-ltb i 0 zero-le)
@@ -44,15 +42,12 @@ giving_start n k c up cs w pre = record {
   };
 }
 
-module _ (n k c up : ℕ) (cs w₀ w : List ℕ) (j at : ℕ) (pre : GivePre n k c up cs w₀) (s : Giving n k c up cs w₀ w j at) (h : j < k) where
+module _ (n k c up : ℕ) (cs w₀ w : List ℕ) (j : ℕ) (pre : GivePre n k c up cs w₀) (s : Giving n k c up cs w₀ w j) (h : j < k) where
   grid : Grid n k cs w
   grid = record { counted = pre.grid.counted; long = s.rows.long; small = pre.grid.small }
 
-  pub give-to : up * k + j < length w
+  give-to : up * k + j < length w
   give-to = sum_in n k cs w grid up j pre.node h
-
-  pub give_at : at < length cs
-  give_at = omega (arith, s.place, count_in_lem n k cs w grid c j pre.child h)
 
   takes : cell k w up j ≡ cell k w₀ up j
   takes =
@@ -60,19 +55,15 @@ module _ (n k c up : ℕ) (cs w₀ w : List ℕ) (j at : ℕ) (pre : GivePre n k
       ∙ ap (λ (b : Bool). cell k w₀ up j + cond (eqb up up && b) (get_or cs (j * n + c) 0) 0) (le-ltb j j (omega arith))
       ∙ ap (λ (b : Bool). cell k w₀ up j + cond b (get_or cs (j * n + c) 0) 0) (and-false (eqb up up)) ∙ add-zero _
 
-  pub give-fits : cell k w up j + get_or cs at 0 < 2 ^ 32
-  give-fits = omega (arith, pre.fits j h, takes, ap (λ (e : ℕ). get_or cs e 0) s.place)
-
-  pub giving_step : Giving n k c up cs w₀ (set w (up * k + j) (cell k w up j + get_or cs at 0)) (j + 1) (at + n)
+  pub giving_step : Giving n k c up cs w₀ (set w (up * k + j) (cell k w up j + get_or cs (j * n + c) 0)) (j + 1)
   giving_step = record {
     words = omega arith;
-    place = omega (arith, s.place, row_next j n);
     rows = record {
-      long = length-set w (up * k + j) (cell k w up j + get_or cs at 0) ∙ s.rows.long;
+      long = length-set w (up * k + j) (cell k w up j + get_or cs (j * n + c) 0) ∙ s.rows.long;
       cells = λ v i a b.
-          cell-add k w up j (get_or cs at 0) v i give-to h b
-          ∙ ap₂ (λ (x y : ℕ). x + cond (eqb v up && eqb i j) y 0) (s.rows.cells v i a b) (ap (λ (e : ℕ). get_or cs e 0) s.place) ∙ one_more v i;
-      flags = λ v l. flag-keeps n k w up j (cell k w up j + get_or cs at 0) v pre.node h ∙ s.rows.flags v l;
+          cell-add k w up j (get_or cs (j * n + c) 0) v i give-to h b
+          ∙ ap (λ (x : ℕ). x + cond (eqb v up && eqb i j) (get_or cs (j * n + c) 0) 0) (s.rows.cells v i a b) ∙ one_more v i;
+      flags = λ v l. flag-keeps n k w up j (cell k w up j + get_or cs (j * n + c) 0) v pre.node h ∙ s.rows.flags v l;
     };
   }
     where
@@ -87,8 +78,8 @@ module _ (n k c up : ℕ) (cs w₀ w : List ℕ) (j at : ℕ) (pre : GivePre n k
           (eq-or-lt_of_le q))
           (less_or i j)
 
-pub giving_end : (n k c up : ℕ) (cs w₀ w : List ℕ) (j at : ℕ) → Giving n k c up cs w₀ w j at → k ≤ j → SumsAndFlags n k (given cs n k c up w₀) (flag_at n k w₀) w
-giving_end n k c up cs w₀ w j at s h = record {
+pub giving_end : (n k c up : ℕ) (cs w₀ w : List ℕ) (j : ℕ) → Giving n k c up cs w₀ w j → k ≤ j → SumsAndFlags n k (given cs n k c up w₀) (flag_at n k w₀) w
+giving_end n k c up cs w₀ w j s h = record {
   long = s.rows.long;
   cells = λ v i a b.
       s.rows.cells v i a b

@@ -1,8 +1,7 @@
 -- Laws of the search's rows of work. Assumes nothing.
-use Prim.Native.Nat.{ℕ, ◌+◌, ◌*◌, ◌≤◌, ◌<◌}
+use Prim.Native.Nat.{ℕ, ◌+◌, ◌*◌, ◌<◌}
 use mathlib.Core.Path.{◌≡◌}
 use mathlib.Core.List.{List}
-use native.Mathlib.Nat.{mul_comm}
 use native.Mathlib.Omega.{arith}
 use lib.ListN.{length, set}
 use lib.Seq.{get_or-set_other}
@@ -23,17 +22,6 @@ module _ (n k : ℕ) (cs w : List ℕ) (g : Grid n k cs w) where
 
   pub count_in_lem : (v j : ℕ) → v < n → j < k → j * n + v < length cs
   count_in_lem v j a b = omega (arith, row_le j k n b, g.counted)
-
-  pub work-small : length w ≤ 655360
-  work-small = omega (arith, g.long, g.small)
-
-  -- One row more than the counts have is not much either.
-  pub counts-small : length cs + n ≤ 655360
-  counts-small = omega (arith, g.counted, g.small, mul_comm n k)
-
-  -- Where the sums of a node begin.
-  pub base-small : (v : ℕ) → v < n → v * k ≤ 655360
-  base-small v l = omega (arith, g.small, row_le v n k l)
 
 -- A flag is no sum: a store to one leaves the others.
 pub cell-keeps : (n k : ℕ) (w : List ℕ) (u x v j : ℕ) → v < n → j < k → cell k (set w (n * k + u) x) v j ≡ cell k w v j

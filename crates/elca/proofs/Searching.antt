@@ -2,27 +2,23 @@
 -- Letters: p parents, cs counts, w work as lent, w₁ w₂ w₃ after the full flags, the sums, the answers' flags; o out, s own; n nodes, k words; v node, j word.
 use Prim.Native.Nat.{ℕ, ◌+◌, ◌-◌, ◌*◌, ◌≤◌, ◌<◌}
 use mathlib.Core.Path.{◌≡◌, refl, sym, ap, ◌∙◌}
-use mathlib.Core.Logic.{⊎_elim}
 use mathlib.Core.List.{List, [], ◌∷◌, ◌++◌}
 use mathlib.Core.Bool.{Bool, true, false, not, cond, ◌&&◌}
 use native.Mathlib.Nat.{mul-le-mul_right, mul_comm}
 use native.Mathlib.Omega.{arith}
 use borrow.Rule.Slice.PartMut.{put_mid, same_len_mid, mid_of, post_of}
-use borrow.Author.Tests.{leb-true}
-use lib.Dec.{eqb, ltb, leb}
+use lib.Dec.{eqb, ltb}
 use lib.ListN.{length, get_or, take, drop, replicate, length-take, length-drop, length-replicate, get_or-replicate, get_or-append}
 use lib.Seq.{length-take-le, get_or-take, get_or-append-add}
-use Rattle.seq.specs.Below.{tabulate, listed}
-use Rattle.seq.proofs.Laws.Bools.{bool_cases, flag-some, and_left, and_right}
+use Rattle.seq.specs.Below.{listed}
+use Rattle.seq.proofs.Laws.Bools.{flag-some}
 use Rattle.seq.proofs.Laws.Below.{every_ext}
 use Rattle.seq.proofs.Laws.Sums.{sum_ext}
-use Rattle.seq.proofs.Laws.Gather.{length-tabulate, tabulate_ext, gather_ext, length-gather}
-use Rattle.seq.proofs.Laws.Memory.{length_over}
+use Rattle.seq.proofs.Laws.Gather.{tabulate_ext, gather_ext}
 use Rattle.tree.specs.Tree.{child}
 use Rattle.index.specs.declared.Reply.{Reply}
 use Rattle.index.specs.Replies.{accepted, ROOM, totalled, kept_or}
 use Rattle.index.specs.Inner.{cell}
-use Rattle.index.proofs.Laws.Replies.{kept-accepted, kept-refused}
 use Rattle.index.proofs.Laws.Cells.{cell_below}
 use Rattle.answers.specs.Searches.{out_row}
 use Rattle.full.specs.Full.{full_by, full_flags}
@@ -39,36 +35,6 @@ module _ (n k : ℕ) (f f' : ℕ → Bool) (g g' : ℕ → ℕ → ℕ) (ef : (v
     out = a.out ∙ ap (λ (t : List ℕ). kept_or r t o) (gather_ext n f f' out_row out_row ef (λ v l. refl));
     own = a.own ∙ ap (λ (t : List ℕ). kept_or r t s) (gather_ext n f f' _ _ ef (λ v l. tabulate_ext k (g v) (g' v) (λ j h. eg v j l h)));
   }
-
--- Out and own keep their lengths.
-module _ (n k : ℕ) (f : ℕ → Bool) (g : ℕ → ℕ → ℕ) (o s : List ℕ) (r : Reply) (o' s' : List ℕ) (a : Answered n k f g o s r o' s') where
-  m : ℕ
-  m = length (listed n f)
-
-  kept : (new old : List ℕ) → (both_fit k m o s ≡ true → length new ≤ length old) → length (kept_or r new old) ≡ length old
-  unfolding m
-  kept new old h =
-      ⊎_elim
-      (λ q. ap length (kept-accepted r new old (ap (λ (x : Reply). x.refusal) a.reply ∙ ap (λ (b : Bool). cond b accepted ROOM) q)) ∙ length_over new old (h q))
-      (λ q. ap length (kept-refused r new old (λ z. refuses (sym (ap (λ (x : Reply). x.refusal) a.reply ∙ ap (λ (b : Bool). cond b accepted ROOM) q) ∙ z))))
-      (bool_cases (both_fit k (length (listed n f)) o s))
-    where
-      refuses : ROOM ≡ accepted → ⊥
-      refuses z = omega arith
-
-  pub answered-out : length o' ≡ length o
-  unfolding m listed
-  answered-out = ap length a.out ∙ kept _ o (λ q. leb-true (length (listed n f)) (length o) (and_left _ _ q))
-
-  pub answered-own : length s' ≡ length s
-  unfolding m
-  answered-own =
-      ap length a.own
-      ∙ kept _ s (λ q. omega (
-        arith,
-        length-gather k n f (λ v. tabulate k (g v)) (λ v l. length-tabulate k (g v)),
-        leb-true (length (listed n f) * k) (length s) (and_right (leb (length (listed n f)) (length o)) _ q),
-      ))
 
 -- ---- the steps
 module _ (p cs : List ℕ) (k : ℕ) (w : List ℕ) (pre : SearchPre p cs k w) where

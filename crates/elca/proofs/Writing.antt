@@ -1,58 +1,27 @@
 -- Writing own counts: what the loops know, and how a turn keeps it. Assumes nothing.
---   OwnRow    the loop over the words of one node; the count at hand is entry `at` of counts
 --   Writing   the loop over the nodes; the next row of own begins at `at`
 -- Letters: cs counts, w work, s₀ own as lent, s as it is now; n nodes, k words; v node, j word.
 use Prim.Native.Nat.{ℕ, zero-le, ◌+◌, ◌-◌, ◌*◌, ◌≤◌, ◌<◌}
 use mathlib.Core.Path.{◌≡◌, refl, sym, ap, ap₂, ◌∙◌}
 use mathlib.Core.List.{List, ◌++◌, append_assoc}
-use native.Mathlib.Nat.{le_antisymm, zero-mul}
+use native.Mathlib.Nat.{le_antisymm}
 use native.Mathlib.Omega.{arith}
 use borrow.Rule.Slice.PartMut.{put_mid, Post-is}
 use borrow.Author.Tests.{eq-eqb, ne_eqb}
 use lib.Dec.{eqb}
-use lib.ListN.{length, get_or, set, take, drop, length-append, length-take, length-drop}
+use lib.ListN.{length, take, drop, length-append, length-take, length-drop}
 use lib.Seq.{take_at, drop-append-add, drop-drop}
 use Rattle.seq.specs.Below.{tabulate, gather}
 use Rattle.seq.specs.Memory.{over}
-use Rattle.seq.proofs.Laws.Numbers.{row_next}
 use Rattle.seq.proofs.Laws.Gather.{length-tabulate, gather-zero, gather-yes, gather_no, gather_le}
 use Rattle.seq.proofs.Laws.Memory.{over-nil, length_over}
-use Rattle.seq.proofs.Laws.Loops.{Filling, filling_start, filling_step, filling_end}
-use Rattle.index.specs.Inner.{cell}
+use Rattle.seq.proofs.Laws.Loops.{Filling, filling_end}
 use Rattle.elca.specs.Inner.Rows.{flag_at, own_diff, own_rows}
 use Rattle.elca.specs.Inner.Steps.{OwnRowPre, OwnPre}
-use Rattle.elca.proofs.Laws.{sum_in, count_in_lem}
 
 -- ---- one node
-pub record OwnRow (n k v : ℕ) (cs w d row : List ℕ) (j at : ℕ) : Type 0 where
-  pub place : at ≡ j * n + v
-  pub filled : Filling (own_diff cs n k w v) d row j
-
-pub own-start : (n k v : ℕ) (cs w d : List ℕ) → OwnRow n k v cs w d d 0 v
-own-start n k v cs w d = record { place = omega (arith, zero-mul n); filled = filling_start (own_diff cs n k w v) d }
-
-module _ (n k v : ℕ) (cs w d row : List ℕ) (j at : ℕ) (pre : OwnRowPre n k v cs w d) (s : OwnRow n k v cs w d row j at) (h : j < k) where
-  pub own_at : at < length cs
-  own_at = omega (arith, s.place, count_in_lem n k cs w pre.grid v j pre.node h)
-
-  pub own-sum : v * k + j < length w
-  own-sum = sum_in n k cs w pre.grid v j pre.node h
-
-  pub own-place : j < length row
-  own-place = omega (arith, s.filled.long, pre.long)
-
-  pub own-less : cell k w v j ≤ get_or cs at 0
-  own-less = omega (arith, pre.below j h, ap (λ (e : ℕ). get_or cs e 0) s.place)
-
-  pub own-step : OwnRow n k v cs w d (set row j (get_or cs at 0 - cell k w v j)) (j + 1) (at + n)
-  own-step = record {
-    place = omega (arith, s.place, row_next j n);
-    filled = filling_step (own_diff cs n k w v) d row j (get_or cs at 0 - cell k w v j) s.filled (omega (arith, pre.long)) (ap (λ (e : ℕ). get_or cs e 0 - cell k w v j) s.place);
-  }
-
-pub own-end : (n k v : ℕ) (cs w d row : List ℕ) (j at : ℕ) → OwnRowPre n k v cs w d → OwnRow n k v cs w d row j at → k ≤ j → row ≡ tabulate k (own_diff cs n k w v)
-own-end n k v cs w d row j at pre s h =
-    filling_end (own_diff cs n k w v) d row j s.filled (omega (arith, pre.long)) ∙ ap (λ (z : ℕ). tabulate z (own_diff cs n k w v)) pre.long
+pub own-end : (n k v : ℕ) (cs w d row : List ℕ) (j : ℕ) → OwnRowPre n k v cs w d → Filling (own_diff cs n k w v) d row j → length d ≤ j → row ≡ tabulate k (own_diff cs n k w v)
+own-end n k v cs w d row j pre s h = filling_end (own_diff cs n k w v) d row j s h ∙ ap (λ (z : ℕ). tabulate z (own_diff cs n k w v)) pre.long
 
 -- ---- all nodes
 -- What is written for the nodes below v.

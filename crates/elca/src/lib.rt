@@ -22,14 +22,7 @@ fn put(counts: &[u32], n: usize, k: usize, work: &[u32], out: &mut [u32], own: &
     let sums = n * k;
     let used = sums + n;
     let m = listing::count_flagged(&work[sums..used]);
-    if out.len() < m {
-        return Reply {
-            refusal: index::ROOM,
-            place: 0,
-            total: m as u32,
-        };
-    }
-    if own.len() < m * k {
+    if out.len() < m || own.len() < m * k {
         return Reply {
             refusal: index::ROOM,
             place: 0,
@@ -98,7 +91,7 @@ pub fn elca(
         return r;
     }
     let n = parents.len();
-    let k = seq::widen(p);
+    let k = p as usize;
     let used = n * k + n;
     search(parents, counts, k, &mut work[..used], out, own)
 }

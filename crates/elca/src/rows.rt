@@ -12,14 +12,8 @@ fn give(counts: &[u32], n: usize, k: usize, c: usize, up: usize, work: &mut [u32
     ensures { SumsAndFlags n k (given counts.now n k c up work.old) (flag_at n k work.old)
         work.new }
 {
-    let above = up * k;
-    let mut j: usize = 0;
-    let mut from = c;
-    while j < k {
-        let at = above + j;
-        work[at] = work[at] + counts[from];
-        from += n;
-        j += 1;
+    for j in 0..k {
+        work[up * k + j] += counts[j * n + c];
     }
 }
 
@@ -32,13 +26,11 @@ pub(crate) fn take_off(parents: &[u32], counts: &[u32], k: usize, work: &mut [u3
 {
     let n = parents.len();
     let sums = n * k;
-    let mut c: usize = 1;
-    while c < n {
+    for c in 1..n {
         if work[sums + c] != 0 {
-            let up = seq::widen(parents[c]);
+            let up = parents[c] as usize;
             give(counts, n, k, c, up, &mut *work);
         }
-        c += 1;
     }
 }
 
@@ -47,17 +39,7 @@ fn is_above(counts: &[u32], n: usize, k: usize, v: usize, work: &[u32]) -> bool
     requires { NodePre n k v counts.now work.now }
     ensures { result ≡ above_held counts.now n k work.now v }
 {
-    let row = v * k;
-    let mut j: usize = 0;
-    let mut at = v;
-    while j < k {
-        if counts[at] <= work[row + j] {
-            return false;
-        }
-        at += n;
-        j += 1;
-    }
-    true
+    (0..k).all(|j| work[v * k + j] < counts[j * n + v])
 }
 
 // Each flag becomes 1 where each word's count is above what stands in work for it, else 0. The sums stay.
@@ -67,16 +49,9 @@ pub(crate) fn flag_above(counts: &[u32], n: usize, k: usize, work: &mut [u32])
         (λ v. cond (above_held counts.now n k work.old v) 1 0) work.new }
 {
     let sums = n * k;
-    let mut v: usize = 0;
-    while v < n {
+    for v in 0..n {
         let above = is_above(counts, n, k, v, &*work);
-        let at = sums + v;
-        if above {
-            work[at] = 1;
-        } else {
-            work[at] = 0;
-        }
-        v += 1;
+        work[sums + v] = u32::from(above);
     }
 }
 
@@ -85,13 +60,8 @@ fn own_row(counts: &[u32], n: usize, k: usize, v: usize, work: &[u32], row: &mut
     requires { OwnRowPre n k v counts.now work.now row.old }
     ensures { row.new ≡ tabulate k (own_diff counts.now n k work.now v) }
 {
-    let base = v * k;
-    let mut j: usize = 0;
-    let mut at = v;
-    while j < k {
-        row[j] = counts[at] - work[base + j];
-        at += n;
-        j += 1;
+    for (j, own) in row.iter_mut().enumerate() {
+        *own = counts[j * n + v] - work[v * k + j];
     }
 }
 
@@ -101,14 +71,12 @@ pub(crate) fn write_own(counts: &[u32], n: usize, k: usize, work: &[u32], own: &
     ensures { own.new ≡ over (own_rows counts.now n k work.now) own.old }
 {
     let sums = n * k;
-    let mut v: usize = 0;
     let mut at: usize = 0;
-    while v < n {
+    for v in 0..n {
         if work[sums + v] == 1 {
             let next = at + k;
             own_row(counts, n, k, v, work, &mut own[at..next]);
             at = next;
         }
-        v += 1;
     }
 }

@@ -1,10 +1,6 @@
 -- `elca::rows::give` meets its contract: glue over Giving.
-use Prim.Native.Nat.{◌-◌}
 use Rattle.elca.proofs.Giving.{Giving}
 use Rattle.elca.proofs.rows.give.Given as goal
 
 abbrev pub invariant-loop-j : goal.invariant-loop-j
-invariant-loop-j l = Giving l.n l.k l.c l.up l.counts l.initial.work l.work l.j l.from
-
-abbrev pub decreases-loop-j : goal.decreases-loop-j
-decreases-loop-j l = l.k - l.j
+invariant-loop-j l = Giving l.n l.k l.c l.up l.counts l.initial.work l.work l.j
