@@ -3,18 +3,18 @@
 --   blanked-long                the stack stays as long as it was
 --   blanked-at, blanked-rest    entry by entry
 --   blanked-same                what is zeroed does not count
---   Blanking                    what the loop of `clear` knows: i entries are zero, and f turns are left
---   blanking_again              a turn of it, where m - i turns are left
+--   blanking_step, blanking_end   a turn of the loop of `clear`, and its end
 -- Letters: ys stack, m entries to zero, i entries that are. Assumes nothing.
 use Prim.Native.Nat.{ℕ, zero, suc, ◌+◌, ◌-◌, ◌≤◌, ◌<◌}
-use mathlib.Core.Path.{◌≡◌, refl, sym, ap, subst, ◌∙◌}
+use mathlib.Core.Path.{◌≡◌, refl, sym, ap, ◌∙◌}
 use mathlib.Core.Logic.{⊎_elim}
-use mathlib.Core.List.{List, [], ◌∷◌, ◌++◌}
+use mathlib.Core.List.{List, [], ◌∷◌, ◌++◌, append-nil}
 use native.Mathlib.Nat.{not-suc-le-zero, le_of_suc-le-suc}
 use native.Mathlib.Numerals.{add-one}
 use native.Mathlib.Omega.{arith}
-use lib.ListN.{length, get_or, set, drop, replicate, length-append, length-drop, length-replicate, get_or-replicate, get_or-append}
+use lib.ListN.{length, get_or, set, take, drop, replicate, drop_of_length-le, length-append, length-drop, length-replicate, get_or-replicate, get_or-append}
 use lib.Seq.{get_or-append-add, get_or-drop, ext_get_or}
+use Rattle.std.proofs.lemmas.List.{length-take-le}
 use Rattle.seq.proofs.Laws.Numbers.{less_or}
 use Rattle.engine.specs.declared.Entry.{Entry}
 use Rattle.engine.specs.Search.{blank, blanked}
@@ -58,36 +58,23 @@ blanked-same m ys zs d l e same =
     ext_get_or d (blanked m zs) (blanked m ys) (blanked-long m zs (omega arith) ∙ e ∙ sym (blanked-long m ys l))
     (λ i _. ⊎_elim (λ q. blanked-at m zs d i q ∙ sym (blanked-at m ys d i q)) (λ q. blanked-rest m zs d i q ∙ same i q ∙ sym (blanked-rest m ys d i q)) (less_or i m))
 
--- ---- the loop
-pub record Blanking (m : ℕ) (ys : List Entry) (f i : ℕ) (l : List Entry) : Type 0 where
-  pub turns : i + f ≡ m
-  pub list : l ≡ blanked i ys
-
+-- ---- the loop, which goes over the first m entries
 module _ (m : ℕ) (ys : List Entry) (enough : m ≤ length ys) where
-  pub blanking_start : Blanking m ys m 0 ys
-  blanking_start = record { turns = omega arith; list = sym (blanked-zero ys) }
-
-  pub blanking_long : (f i : ℕ) (l : List Entry) → Blanking m ys f i l → length l ≡ length ys
-  blanking_long f i l w = ap length w.list ∙ blanked-long i ys (omega (arith, w.turns))
-
-  pub blanking_step : (f i : ℕ) (l : List Entry) → Blanking m ys (suc f) i l → Blanking m ys f (i + 1) (set l i blank)
-  blanking_step f i l w = record {
-    turns = omega (arith, w.turns);
-    list = ap (λ (z : List Entry). set z i blank) w.list ∙ blanked-suc i ys (omega (arith, w.turns));
-  }
-
-  pub blanking_end : (f i : ℕ) (l : List Entry) → Blanking m ys f i l → m ≤ i → l ≡ blanked m ys
-  blanking_end f i l w h = w.list ∙ ap (λ (z : ℕ). blanked z ys) same
-    where
-      same : i ≡ m
-      same = omega (arith, w.turns)
+  long-front : length (take m ys) ≡ m
+  long-front = length-take-le m ys enough
 
   blank-fresh : fresh 0 ≡ blank
   unfolding blank fresh
   blank-fresh = refl
 
-  -- A turn that stores an entry with nothing counted, where m - i turns were left.
-  pub blanking_again : (i : ℕ) (l : List Entry) (e : Entry) → e ≡ fresh 0 → i < m → Blanking m ys (m - i) i l → Blanking m ys (m - (i + 1)) (i + 1) (set l i e)
-  blanking_again i l e z s w =
-      subst (λ (x : Entry). Blanking m ys (m - (i + 1)) (i + 1) (set l i x)) (sym (z ∙ blank-fresh))
-      (blanking_step (m - (i + 1)) i l (record { turns = omega (arith, s); list = w.list }))
+  -- A turn that stores an entry with nothing counted.
+  pub blanking_step : (i : ℕ) (l : List Entry) (e : Entry) → e ≡ fresh 0 → i < length (take m ys) → l ≡ blanked i (take m ys) → set l i e ≡ blanked (i + 1) (take m ys)
+  blanking_step i l e z s w = rw (z, blank-fresh, w) (blanked-suc i (take m ys) s)
+
+  pub blanking_end : (i : ℕ) (l : List Entry) → l ≡ blanked i (take m ys) → i ≤ length (take m ys) → length (take m ys) ≤ i → l ++ drop m ys ≡ blanked m ys
+  unfolding blanked
+  blanking_end i l w a b =
+      ap (λ (z : List Entry). z ++ drop m ys) (w ∙ ap (λ (z : ℕ). replicate z blank ++ drop z (take m ys)) same ∙ ap (λ (z : List Entry). replicate m blank ++ z) (drop_of_length-le (take m ys) {i = m} (omega (arith, long-front))) ∙ append-nil (replicate m blank))
+    where
+      same : i ≡ m
+      same = omega (arith, long-front)

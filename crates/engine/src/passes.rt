@@ -4,18 +4,15 @@ ghost use Rattle.engine.specs.Search.{blanked};
 ghost use Rattle.engine.specs.Inner.Passes.{job, world, RunPre, Ran, BeginPre, Begun, PassPre, Passed};
 
 use crate::steps::{State, Step};
-use crate::{Entry, cursors, entries, steps};
+use crate::{Entry, cursors, steps};
 
 // The first m entries become zero; later ones stay.
 pub(crate) fn clear(stack: &mut [Entry], m: usize)
     requires { m ≤ length stack.old }
     ensures { stack.new ≡ blanked m stack.old }
 {
-    let e = entries::new(0);
-    let mut i: usize = 0;
-    while i < m {
-        stack[i] = e;
-        i += 1;
+    for entry in &mut stack[..m] {
+        *entry = Entry::new(0);
     }
 }
 
@@ -58,7 +55,7 @@ fn begin(ends: &[u32], occurrences: &[u32], cursors: &mut [u32], s: State) -> St
     requires { BeginPre ends.now occurrences.now cursors.old s }
     ensures { Begun ends.now occurrences.now cursors.old s result cursors.new }
 {
-    let e = entries::new(0);
+    let e = Entry::new(0);
     let mut r = s;
     if s.on {
         r.reach = cursors::set(ends, occurrences, cursors);

@@ -1,7 +1,7 @@
 // One step of the engine, on the top of the stack, the entry below it, and numbers: the node that comes next is put on the top, or the top is closed.
-ghost use Rattle.std.specs.Prelude.{◌≡◌, ◌-◌, length, take};
+ghost use Rattle.std.specs.Prelude.{◌≡◌, ◌-◌};
 ghost use Rattle.engine.specs.Inner.Steps.{risen, ClosePre, ArrivePre, AdvancePre, Closed, Arrived, Advanced};
-ghost use Rattle.engine.specs.Inner.Writing.{CopyPre, PutPre, Put, JudgePre, Judged, ClimbPre};
+ghost use Rattle.engine.specs.Inner.Writing.{PutPre, Put, JudgePre, Judged, ClimbPre};
 
 use crate::{Entry, cursors, entries};
 
@@ -30,18 +30,6 @@ pub(crate) struct Step {
 
 // ---- answers
 
-// Copies the first counts to a row.
-fn copy_row(counts: [u32; 8], row: &mut [u32])
-    requires { CopyPre row.old }
-    ensures { row.new ≡ take (length row.old) counts }
-{
-    let mut j: usize = 0;
-    while j < row.len() {
-        row[j] = counts[j];
-        j += 1;
-    }
-}
-
 // Writes an answer as entry m of out and, unless the smallest are listed, row m of own.
 fn put(e: Entry, k: usize, m: usize, smallest: bool, out: &mut [u32], own: &mut [u32])
     requires { PutPre k m smallest out.old own.old }
@@ -51,8 +39,7 @@ fn put(e: Entry, k: usize, m: usize, smallest: bool, out: &mut [u32], own: &mut 
     if !smallest {
         let from = m * k;
         let to = from + k;
-        let c = e.own;
-        copy_row(c, &mut own[from..to]);
+        own[from..to].copy_from_slice(&e.own[..k]);
     }
 }
 
@@ -61,7 +48,7 @@ fn judge(s: State, e: Entry, full: bool, k: usize, out: &mut [u32], own: &mut [u
     requires { JudgePre k out.old own.old s e full }
     ensures { Judged k out.old own.old s e result out.new own.new }
 {
-    if !entries::answers(e, full, k, s.smallest) {
+    if !e.answers(full, k, s.smallest) {
         return s.left;
     }
     if !s.fill {
@@ -79,12 +66,9 @@ fn climb(parents: &[u32], node: u32, low: u32, reach: u32) -> u32
     requires { ClimbPre parents.now node }
     ensures { result ≡ risen parents.now low reach node }
 {
-    let mut v = parents[seq::widen(node)];
-    while low < v {
-        if v < reach {
-            return v;
-        }
-        v = parents[seq::widen(v)];
+    let mut v = parents[node as usize];
+    while low < v && reach <= v {
+        v = parents[v as usize];
     }
     v
 }
@@ -112,16 +96,14 @@ fn close(
     requires { ClosePre parents.now k out.old own.old s e b }
     ensures { Closed parents.now k out.old own.old s e b result out.new own.new }
 {
-    let o = e.own;
-    let c = e.covered;
-    let held = entries::add(o, c);
+    let held = e.held();
     let full = entries::each_some(k, held);
     let mut r = s;
     r.left = judge(s, e, full, k, out, own);
     let at = s.at;
     if at == 0 {
         r.on = false;
-        let f = entries::new(0);
+        let f = Entry::new(0);
         return Step { state: r, top: f };
     }
     let q = climb(parents, e.node, b.node, s.reach);
@@ -129,11 +111,11 @@ fn close(
         let to = at - 1;
         r.at = to;
         r.low = below(to);
-        let t = entries::close_into(b, full, held);
+        let t = b.close_into(full, held);
         return Step { state: r, top: t };
     }
-    let f = entries::new(q);
-    let t = entries::close_into(f, full, held);
+    let f = Entry::new(q);
+    let t = f.close_into(full, held);
     Step { state: r, top: t }
 }
 

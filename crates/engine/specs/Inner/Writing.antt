@@ -7,9 +7,6 @@ use Rattle.engine.specs.declared.steps.State.{State}
 use Rattle.engine.specs.Inner.Entries.{full_entry}
 use Rattle.engine.specs.Inner.Steps.{left_after, out_after, own_after, row_put, writing}
 
-pub record CopyPre (row : List ℕ) : Type 0 where
-  pub short : length row ≤ 8
-
 -- There is room for row m.
 pub record PutPre (k m : ℕ) (smallest : Bool) (o w : List ℕ) : Type 0 where
   pub words : k ≤ 8

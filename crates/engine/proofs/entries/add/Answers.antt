@@ -8,11 +8,11 @@ use Rattle.engine.proofs.entries.add.Goals as goal
 pub loop-j-init : goal.loop-j-init
 loop-j-init c = filling_start _ _
 
-pub overflow_add-r : goal.overflow_add-r
-overflow_add-r c = omega (arith, c.requires.fits c.loop-j.j c.loop-j-test.true)
+pub overflow_add-sums : goal.overflow_add-sums
+overflow_add-sums c = omega (arith, c.requires.fits c.loop-j.j c.loop-j-test.true)
 
 pub loop-j-preserved : goal.loop-j-preserved
-loop-j-preserved c = filling_step _ _ _ _ _ c.loop-j.invariant (omega (arith, c.well_formed.0)) refl
+loop-j-preserved c = filling_step _ _ _ _ _ c.loop-j.invariant c.loop-j-test.true refl
 
 pub returns : goal.returns
-returns c = sums-end _ _ _ _ c.loop-j.invariant (omega (arith, c.well_formed.0)) c.loop-j-test.false
+returns c = sums-end _ _ _ _ _ c.loop-j.invariant refl c.loop-j-test.false

@@ -1,13 +1,13 @@
 -- `engine::passes::clear` meets its contract: glue over Blanks. Assumes nothing.
-use native.Mathlib.Omega.{arith}
-use Rattle.engine.proofs.Blanks.{blanking_start, blanking_again, blanking_end}
+use mathlib.Core.Path.{sym}
+use Rattle.engine.proofs.Blanks.{blanked-zero, blanking_step, blanking_end}
 use Rattle.engine.proofs.passes.clear.Goals as goal
 
-pub loop-i-init : goal.loop-i-init
-loop-i-init c = record { turns = omega arith; list = (blanking_start _ _ c.requires).list }
+pub loop-entry-init : goal.loop-entry-init
+loop-entry-init c = sym (blanked-zero _)
 
-pub loop-i-preserved : goal.loop-i-preserved
-loop-i-preserved c = blanking_again _ _ c.requires _ _ _ c.new-e.ensures c.loop-i-test.true c.loop-i.invariant
+pub loop-entry-preserved : goal.loop-entry-preserved
+loop-entry-preserved c = blanking_step _ _ c.requires _ _ _ c.new.ensures c.loop-entry-test.true c.loop-entry.invariant
 
 pub returns : goal.returns
-returns c = blanking_end _ _ c.requires _ _ _ c.loop-i.invariant c.loop-i-test.false
+returns c = blanking_end _ _ c.requires _ _ c.loop-entry.invariant c.loop-entry.auto.entry-index-end c.loop-entry-test.false

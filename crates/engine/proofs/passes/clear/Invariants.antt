@@ -1,10 +1,8 @@
 -- `engine::passes::clear` meets its contract: glue over Blanks. Assumes nothing.
-use Prim.Native.Nat.{◌-◌}
-use Rattle.engine.proofs.Blanks.{Blanking}
+use mathlib.Core.Path.{◌≡◌}
+use lib.ListN.{take}
+use Rattle.engine.specs.Search.{blanked}
 use Rattle.engine.proofs.passes.clear.Given as goal
 
-abbrev pub invariant-loop-i : goal.invariant-loop-i
-invariant-loop-i l = Blanking l.m l.initial.stack (l.m - l.i) l.i l.stack
-
-abbrev pub decreases-loop-i : goal.decreases-loop-i
-decreases-loop-i l = l.m - l.i
+abbrev pub invariant-loop-entry : goal.invariant-loop-entry
+invariant-loop-entry l = l.entry-items ≡ blanked l.entry-index (take l.m l.fn.stack)

@@ -1,7 +1,7 @@
--- `engine::entries::new` meets its contract. Assumes nothing.
+-- `engine::Entry::new` meets its contract. Assumes nothing.
 use mathlib.Core.Path.{refl}
 use Rattle.engine.specs.Inner.Entries.{fresh}
-use Rattle.engine.proofs.entries.new.Goals as goal
+use Rattle.engine.proofs.Entry.new.Goals as goal
 
 pub returns : goal.returns
 unfolding fresh
