@@ -1,6 +1,6 @@
 -- The loops of `skip`, `find` and `rise` (Run) and of `common` (Match): at each place, what is left of what was asked for. Assumes nothing.
 -- Letters: t text, w word, f test of a byte, o where the loop began, i where it is.
-use Prim.Native.Nat.{ℕ, suc, ◌+◌, ◌≤◌, ◌<◌}
+use Prim.Native.Nat.{ℕ, suc, ◌+◌, ◌≤◌, ◌<◌, max}
 use mathlib.Core.Path.{◌≡◌, refl, sym, ap, subst, ◌∙◌}
 use mathlib.Core.List.{List}
 use mathlib.Core.Bool.{Bool, true, false}
@@ -34,28 +34,26 @@ module _ (f : ℕ → Bool) (t : List ℕ) (o i : ℕ) (r : Run f t o i) where
   pub run_end : length t ≤ i → i ≡ o + span f (drop o t)
   run_end l = omega (arith, r.same, span_none f t i l)
 
+  -- the loop is over: o is past the end, or i is the end
+  pub at_end : length t ≤ i → (o ≤ length t → i ≤ length t) → (z : ℕ) → z ≡ max o (length t) → z ≡ o + span f (drop o t)
+  at_end l e z q = grind (arith, r.same, span_none f t i l, span_none f t o)
+
 -- ---- a common beginning
-pub record Match (w t : List ℕ) (o i : ℕ) : Type 0 where
-  pub same : i + common (drop i w) (drop (o + i) t) ≡ common w (drop o t)
+pub record Match (w t : List ℕ) (i : ℕ) : Type 0 where
+  pub same : i + common (drop i w) (drop i t) ≡ common w t
 
-pub match_start : (w t : List ℕ) (o : ℕ) → Match w t o 0
-match_start w t o = record { same = omega (arith, ap (λ (k : ℕ). common w (drop k t)) back) }
-  where
-    back : o + 0 ≡ o
-    back = omega arith
+pub match_start : (w t : List ℕ) → Match w t 0
+match_start w t = record { same = omega arith }
 
-module _ (w t : List ℕ) (o i : ℕ) (m : Match w t o i) where
-  pub match_step : i < length w → o + i < length t → get_or t (o + i) 0 ≡ get_or w i 0 → Match w t o (i + 1)
-  match_step lw lt e = record { same = rw (add-one i, more) (omega (arith, m.same, common-step w t i (o + i) lw lt e)) }
-    where
-      more : o + suc i ≡ suc (o + i)
-      more = omega arith
+module _ (w t : List ℕ) (i : ℕ) (m : Match w t i) where
+  pub match_step : i < length w → i < length t → get_or t i 0 ≡ get_or w i 0 → Match w t (i + 1)
+  match_step lw lt e = record { same = rw (add-one i) (omega (arith, m.same, common-step w t i i lw lt e)) }
 
-  pub match_stop : i < length w → o + i < length t → (get_or t (o + i) 0 ≡ get_or w i 0 → ⊥) → i ≡ common w (drop o t)
-  match_stop lw lt e = omega (arith, m.same, common-stop w t i (o + i) lw lt e)
+  pub match_stop : i < length w → i < length t → (get_or t i 0 ≡ get_or w i 0 → ⊥) → i ≡ common w t
+  match_stop lw lt e = omega (arith, m.same, common-stop w t i i lw lt e)
 
-  pub match_short : i < length w → length t ≤ o + i → i ≡ common w (drop o t)
-  match_short lw lt = omega (arith, m.same, common-short w t i (o + i) lw lt)
+  pub match_short : i < length w → length t ≤ i → i ≡ common w t
+  match_short lw lt = omega (arith, m.same, common-short w t i i lw lt)
 
-  pub match_end : length w ≤ i → i ≡ common w (drop o t)
-  match_end l = omega (arith, m.same, common-end w t i (o + i) l)
+  pub match_end : length w ≤ i → i ≡ common w t
+  match_end l = omega (arith, m.same, common-end w t i i l)

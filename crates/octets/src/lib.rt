@@ -3,7 +3,7 @@
 // Each function takes slices of any length and any content, and a place past the end of the text has no bytes at it.
 #![tactic(auto)]
 
-ghost use Rattle.std.specs.Prelude.{◌≡◌, ◌+◌, ◌<◌, drop};
+ghost use Rattle.std.specs.Prelude.{ℕ, Bool, ◌≡◌, ◌+◌, ◌<◌, drop};
 ghost use Rattle.profile.specs.Classes.{class, within};
 ghost use Rattle.profile.specs.Bytes as bytes;
 ghost use Rattle.profile.specs.Spans as spans;
@@ -53,34 +53,33 @@ fn is_within(set: u32, x: u8) -> bool
     class_of(x) & set != 0
 }
 
+// The first place from `at` on at which a byte does not pass the test, or the end of the text; `at` itself past the end. So it is for each test of numbers that
+// says of a byte what this one answers.
+fn run<F: Fn(u8) -> bool>(text: &[u8], at: usize, test: F) -> usize
+    requires { F.IsAlwaysCallable test }
+    ensures { (f : ℕ → Bool) → ((x : ℕ) (r : Bool) → x < 256 → F.post test x r → r ≡ f x) → result ≡ at + spans.span f (drop at text.now) }
+{
+    for i in at..text.len() {
+        if !test(text[i]) {
+            return i;
+        }
+    }
+    at.max(text.len())
+}
+
 // The first place from `at` on at which a byte's class is not one of the set, or the end of the text; `at` itself past the end.
 pub fn skip(text: &[u8], at: usize, set: u32) -> usize
     ensures { result ≡ at + spans.span (within set) (drop at text.now) }
 {
-    let mut i = at;
-    while i < text.len() {
-        if !is_within(set, text[i]) {
-            return i;
-        }
-        i += 1;
-    }
-    i
+    run(text, at, |x| is_within(set, x))
 }
 
 // Whether a byte is white space.
+#[tactic(auto, unfolding(profile::specs::Bytes::white))]
 fn is_white(x: u8) -> bool
     ensures { result ≡ bytes.white x }
 {
-    if x == b' ' {
-        return true;
-    }
-    if x == b'\t' {
-        return true;
-    }
-    if x == b'\r' {
-        return true;
-    }
-    x == b'\n'
+    matches!(x, b' ' | b'\t' | b'\r' | b'\n')
 }
 
 // The first place from `at` on at which no white space stands, or the end of the text; `at` itself past the end. White space is mostly short: four bytes are told
@@ -88,68 +87,31 @@ fn is_white(x: u8) -> bool
 pub fn white(text: &[u8], at: usize) -> usize
     ensures { result ≡ at + spans.span bytes.white (drop at text.now) }
 {
-    let mut i = at;
-    while i < text.len() {
-        if !is_white(text[i]) {
-            return i;
-        }
-        i += 1;
-    }
-    i
+    run(text, at, is_white)
 }
 
-// The first place from `at` on at which the byte x stands, or the end of the text; `at` itself past the end. A byte a turn.
-fn find_short(text: &[u8], at: usize, x: u8) -> usize
-    ensures { result ≡ at + spans.span (spans.other x) (drop at text.now) }
-{
-    let mut place = at;
-    while place < text.len() {
-        if text[place] == x {
-            return place;
-        }
-        place += 1;
-    }
-    place
-}
-
-// The same, four bytes a turn.
+// The first place from `at` on at which the byte x stands, or the end of the text; `at` itself past the end. Four bytes a turn.
 pub fn find(text: &[u8], at: usize, x: u8) -> usize
     ensures { result ≡ at + spans.span (spans.other x) (drop at text.now) }
 {
     let mut i = at;
-    while i < text.len() {
-        if text.len() - i < 4 {
-            return find_short(text, i, x);
-        }
-        if text[i] == x {
-            return i;
-        }
-        if text[i + 1] == x {
-            return i + 1;
-        }
-        if text[i + 2] == x {
-            return i + 2;
-        }
-        if text[i + 3] == x {
-            return i + 3;
+    while i < text.len() && 4 <= text.len() - i {
+        for j in 0..4 {
+            if text[i + j] == x {
+                return i + j;
+            }
         }
         i += 4;
     }
-    i
+    run(text, i, |y| y != x)
 }
 
 // The first place from `at` on at which a byte above 32 stands, or the end of the text; `at` itself past the end.
+#[tactic(auto, unfolding(profile::specs::Spans::low))]
 pub fn rise(text: &[u8], at: usize) -> usize
     ensures { result ≡ at + spans.span spans.low (drop at text.now) }
 {
-    let mut place = at;
-    while place < text.len() {
-        if 32 < text[place] {
-            return place;
-        }
-        place += 1;
-    }
-    place
+    run(text, at, |x| x <= b' ')
 }
 
 // How many bytes of the word stand in the text at a place, up to the first that differs.
@@ -159,16 +121,11 @@ pub fn common(word: &[u8], text: &[u8], at: usize) -> usize
     if text.len() < at {
         return 0;
     }
-    let left = text.len() - at;
-    let mut i: usize = 0;
-    while i < word.len() {
-        if left <= i {
+    let rest = &text[at..];
+    for (i, x) in word.iter().enumerate() {
+        if rest.len() <= i || rest[i] != *x {
             return i;
         }
-        if text[at + i] != word[i] {
-            return i;
-        }
-        i += 1;
     }
-    i
+    word.len()
 }
