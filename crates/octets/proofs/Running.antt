@@ -1,7 +1,7 @@
--- The loops of `skip`, `find` and `rise` (Run) and of `common` (Match): at each place, what is left of what was asked for. Assumes nothing.
+-- The loops of `run` and `find` (Run) and of `common` (Match): at each place, what is left of what was asked for. Assumes nothing.
 -- Letters: t text, w word, f test of a byte, o where the loop began, i where it is.
-use Prim.Native.Nat.{ℕ, suc, ◌+◌, ◌≤◌, ◌<◌, max}
-use mathlib.Core.Path.{◌≡◌, refl, sym, ap, subst, ◌∙◌}
+use Prim.Native.Nat.{ℕ, ◌+◌, ◌≤◌, ◌<◌, min, max}
+use mathlib.Core.Path.{◌≡◌, refl, sym, subst, ◌∙◌}
 use mathlib.Core.List.{List}
 use mathlib.Core.Bool.{Bool, true, false}
 use native.Mathlib.Numerals.{add-one}
@@ -52,8 +52,6 @@ module _ (w t : List ℕ) (i : ℕ) (m : Match w t i) where
   pub match_stop : i < length w → i < length t → (get_or t i 0 ≡ get_or w i 0 → ⊥) → i ≡ common w t
   match_stop lw lt e = omega (arith, m.same, common-stop w t i i lw lt e)
 
-  pub match_short : i < length w → length t ≤ i → i ≡ common w t
-  match_short lw lt = omega (arith, m.same, common-short w t i i lw lt)
-
-  pub match_end : length w ≤ i → i ≡ common w t
-  match_end l = omega (arith, m.same, common-end w t i i l)
+  -- the shorter of the two is over
+  pub match_end : (n : ℕ) → n ≡ min (length w) (length t) → i ≤ n → n ≤ i → n ≡ common w t
+  match_end n e l h = grind (arith, m.same, common-end w t i i, common-short w t i i)

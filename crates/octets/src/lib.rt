@@ -90,12 +90,16 @@ pub fn white(text: &[u8], at: usize) -> usize
     run(text, at, is_white)
 }
 
-// The first place from `at` on at which the byte x stands, or the end of the text; `at` itself past the end. Four bytes a turn.
+// The first place from `at` on at which the byte x stands, or the end of the text; `at` itself past the end. Four bytes a turn, which ask for the end
+// of the text once.
 pub fn find(text: &[u8], at: usize, x: u8) -> usize
     ensures { result ≡ at + spans.span (spans.other x) (drop at text.now) }
 {
     let mut i = at;
-    while i < text.len() && 4 <= text.len() - i {
+    while i < text.len() {
+        if text.len() - i < 4 {
+            return run(text, i, |y| y != x);
+        }
         for j in 0..4 {
             if text[i + j] == x {
                 return i + j;
@@ -103,7 +107,7 @@ pub fn find(text: &[u8], at: usize, x: u8) -> usize
         }
         i += 4;
     }
-    run(text, i, |y| y != x)
+    i
 }
 
 // The first place from `at` on at which a byte above 32 stands, or the end of the text; `at` itself past the end.
@@ -122,10 +126,11 @@ pub fn common(word: &[u8], text: &[u8], at: usize) -> usize
         return 0;
     }
     let rest = &text[at..];
-    for (i, x) in word.iter().enumerate() {
-        if rest.len() <= i || rest[i] != *x {
+    let n = word.len().min(rest.len());
+    for i in 0..n {
+        if rest[i] != word[i] {
             return i;
         }
     }
-    word.len()
+    n
 }

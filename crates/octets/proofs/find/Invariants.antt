@@ -1,5 +1,5 @@
 -- `octets::find` meets its contract: glue over Running.
-use Prim.Native.Nat.{◌+◌, ◌-◌, ◌≤◌}
+use Prim.Native.Nat.{◌+◌, ◌-◌}
 use lib.ListN.{length}
 use Rattle.profile.specs.Spans.{other}
 use Rattle.octets.proofs.Running.{Run}
