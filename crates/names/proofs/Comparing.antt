@@ -1,29 +1,25 @@
--- Two names of a text, compared byte by byte.
+-- A name and the name at a place of the text, compared byte by byte.
 --   byte-is, byte-none     the first byte of a name that stands at a place
---   bit_in, bit_past       a name's bits, and those past its end
+--   name-here              the name at a place is one
 --   byte_next              byte k of a name is the first byte of what stands k bytes later
 --   found-same, found-other   what `differ` finds
 --   found-whole            what `same` finds: two names are the same where all bytes of the one are in common and the other ends there
---   part-shared            what `in_common` gives
--- Letters: t text, o p places of two names, x y the names, k how many bytes they have in common. Assumes nothing.
-use Prim.Native.Nat.{ℕ, ◌+◌, ◌*◌, ◌-◌, ◌/◌, ◌%◌, ◌≤◌, ◌<◌}
-use mathlib.Core.Path.{◌≡◌, refl, sym, ap, ◌∙◌}
+-- Letters: t text, o p places, x a name, k how many bytes it has in common with what stands at p. Assumes nothing.
+use Prim.Native.Nat.{ℕ, ◌+◌, ◌*◌, ◌≤◌, ◌<◌}
+use mathlib.Core.Path.{◌≡◌, sym, ap, subst, ◌∙◌}
 use mathlib.Core.Logic.{⊎_elim}
 use mathlib.Core.List.{List}
 use mathlib.Core.Bool.{true, false}
-use native.Mathlib.Nat.{le_antisymm, not-le_of_lt, add-zero}
+use native.Mathlib.Nat.{le_antisymm, add-zero}
 use native.Mathlib.Omega.{arith}
-use lib.ListN.{length, get_or, take, drop, length-drop, get_or-eq_default}
+use lib.ListN.{length, get_or, drop, length-drop, get_or-eq_default}
 use lib.Seq.{length-take-le, get_or-take, get_or-drop, ext_get_or}
 use Rattle.seq.proofs.Laws.Bools.{bool-not_both}
 use Rattle.seq.proofs.Laws.Numbers.{less_or}
 use Rattle.profile.specs.Bytes.{name_start, name_char}
 use Rattle.profile.specs.Spans.{span, common, name_at}
 use Rattle.profile.proofs.Laws.Spans.{span-step, span-stop, span_none, span_le, span-passes, span-stops, span_ge, common-word, common-text, common-same, common-differs}
-use Rattle.names.specs.Inner.Bits.{bit_of}
-use Rattle.names.proofs.Digits.{bit-none}
-use Rattle.names.specs.Inner.Tree.{bits}
-use Rattle.names.specs.Inner.Calls.{name_bit, byte_here, in_common, Name, FirstBit, Compared}
+use Rattle.names.specs.Inner.Calls.{byte_here, Name, FirstBit, NamesDiffer}
 use Rattle.names.proofs.Bits.{names-differ}
 
 -- ---- a name's bytes
@@ -70,121 +66,82 @@ byte_next t o k l = ⊎_elim in_name_lem at-end (less_or k (span name_char (drop
             ap name_char (ap (λ (j : ℕ). get_or t (o + j) 0) here ∙ sym (get_or-drop o t (span name_char (drop o t)) 0))
             ∙ span-stops name_char (drop o t) (omega (arith, length-drop o t))
 
--- ---- a name's bits
-module _ (t : List ℕ) (o z : ℕ) (n : Name t o z) (i : ℕ) where
-  pub bit_in : i / 8 < z → bit_of (get_or t (o + i / 8) 0) (i % 8) ≡ name_bit (name_at t o) i
-  unfolding name_bit
-  bit_in l = ap (λ (a : ℕ). bit_of a (i % 8)) (sym (name-at t o (i / 8) (omega (arith, n.is))))
-
-  pub bit_past : z ≤ i / 8 → false ≡ name_bit (name_at t o) i
-  unfolding name_bit
-  bit_past l =
-      sym (ap (λ (a : ℕ). bit_of a (i % 8)) (get_or-eq_default (name_at t o) 0 {n = i / 8} (omega (arith, n.is, name-long t o))) ∙ bit-none (i % 8))
+-- Each byte of the name at a place goes on with it.
+pub name-here : (t : List ℕ) (o : ℕ) → length t ≤ 16777216 → Name (name_at t o)
+name-here t o l = record {
+  letters = λ i h. ap name_char (name-at t o i (omega (arith, h, name-long t o))) ∙ name-passes t o i (omega (arith, h, name-long t o));
+  short = omega (arith, name-long t o, span_le name_char (drop o t), length-drop o t);
+}
 
 -- A byte of a name is not 0.
 passes-some : (a : ℕ) → name_char a ≡ true → a ≡ 0 → ⊥
 unfolding name_char name_start
 passes-some a e z = bool-not_both (name_char a) e (ap name_char z)
 
--- ---- the bytes that two names have in common
-module _ (t : List ℕ) (o p : ℕ) where
+-- ---- the bytes that a name has in common with what stands at a place
+module _ (x t : List ℕ) (p : ℕ) (n : Name x) where
   abbrev shared : ℕ
-  shared = in_common t o p
+  shared = common x (drop p t)
 
-  pub shared-first : shared ≤ span name_char (drop o t)
-  shared-first = omega (arith, common-word (name_at t o) (drop p t), name-long t o)
+  pub shared-first : shared ≤ length x
+  shared-first = common-word x (drop p t)
 
   -- They are the same in the text.
-  bytes_same : (i : ℕ) → i < shared → get_or (name_at t o) i 0 ≡ get_or (drop p t) i 0
+  bytes_same : (i : ℕ) → i < shared → get_or x i 0 ≡ get_or (drop p t) i 0
   bytes_same i l =
-      sym (get_or-take shared (name_at t o) i 0 l) ∙ ap (λ (z : List ℕ). get_or z i 0) (common-same (name_at t o) (drop p t)) ∙ get_or-take shared (drop p t) i 0 l
+      sym (get_or-take shared x i 0 l) ∙ ap (λ (z : List ℕ). get_or z i 0) (common-same x (drop p t)) ∙ get_or-take shared (drop p t) i 0 l
 
   pub shared_second : shared ≤ span name_char (drop p t)
   shared_second =
-      span_ge name_char (drop p t) shared (common-text (name_at t o) (drop p t))
-      (λ i l. ap name_char (sym (bytes_same i l) ∙ name-at t o i (omega (arith, shared-first))) ∙ name-passes t o i (omega (arith, shared-first)))
+      span_ge name_char (drop p t) shared (common-text x (drop p t)) (λ i l. ap name_char (sym (bytes_same i l)) ∙ n.letters i (omega (arith, shared-first)))
 
-  names_same : (i : ℕ) → i < shared → get_or (name_at t o) i 0 ≡ get_or (name_at t p) i 0
+  names_same : (i : ℕ) → i < shared → get_or x i 0 ≡ get_or (name_at t p) i 0
   names_same i l = bytes_same i l ∙ sym (get_or-take (span name_char (drop p t)) (drop p t) i 0 (omega (arith, shared_second)))
 
   -- Where the next bytes are the same too, both names have ended.
-  first_ends : get_or (name_at t o) shared 0 ≡ get_or (name_at t p) shared 0 → span name_char (drop o t) ≤ shared
-  first_ends e = ⊎_elim (λ q. absurd (no q)) (λ q. q) (less_or shared (span name_char (drop o t)))
+  first_ends : get_or x shared 0 ≡ get_or (name_at t p) shared 0 → length x ≤ shared
+  first_ends e = ⊎_elim (λ q. absurd (no q)) (λ q. q) (less_or shared (length x))
     where
-      no : shared < span name_char (drop o t) → ⊥
+      no : shared < length x → ⊥
       no q = ⊎_elim (λ r. both r) (λ r. one r) (less_or shared (span name_char (drop p t)))
         where
           both : shared < span name_char (drop p t) → ⊥
           both r =
-              common-differs (name_at t o) (drop p t) (omega (arith, name-long t o)) (omega (arith, span_le name_char (drop p t)))
+              common-differs x (drop p t) q (omega (arith, span_le name_char (drop p t)))
               (sym (get_or-take (span name_char (drop p t)) (drop p t) shared 0 r) ∙ sym e)
 
           one : span name_char (drop p t) ≤ shared → ⊥
           one r =
-              passes-some (get_or t (o + shared) 0) (name-passes t o shared q)
-              (sym (name-at t o shared q) ∙ e ∙ get_or-eq_default (name_at t p) 0 {n = shared} (omega (arith, name-long t p)))
+              passes-some (get_or x shared 0) (n.letters shared q)
+              (e ∙ get_or-eq_default (name_at t p) 0 {n = shared} (omega (arith, name-long t p)))
 
-  second-ends : get_or (name_at t o) shared 0 ≡ get_or (name_at t p) shared 0 → span name_char (drop p t) ≤ shared
+  second-ends : get_or x shared 0 ≡ get_or (name_at t p) shared 0 → span name_char (drop p t) ≤ shared
   second-ends e = ⊎_elim (λ q. absurd (no q)) (λ q. q) (less_or shared (span name_char (drop p t)))
     where
       no : shared < span name_char (drop p t) → ⊥
       no q =
           passes-some (get_or t (p + shared) 0) (name-passes t p shared q)
-          (sym (name-at t p shared q) ∙ sym e ∙ get_or-eq_default (name_at t o) 0 {n = shared} (omega (arith, name-long t o, first_ends e)))
+          (sym (name-at t p shared q) ∙ sym e ∙ get_or-eq_default x 0 {n = shared} (first_ends e))
 
-  shared_same : byte_here t (o + shared) ≡ byte_here t (p + shared) → name_at t o ≡ name_at t p
+  shared_same : get_or x shared 0 ≡ byte_here t (p + shared) → x ≡ name_at t p
   shared_same e =
-      ext_get_or 0 (name_at t o) (name_at t p) (omega (arith, name-long t o, name-long t p, first_ends f, second-ends f, shared-first, shared_second))
-      (λ i l. names_same i (omega (arith, name-long t o, first_ends f)))
+      ext_get_or 0 x (name_at t p) (omega (arith, name-long t p, first_ends f, second-ends f, shared-first, shared_second))
+      (λ i l. names_same i (omega (arith, first_ends f)))
     where
-      f : get_or (name_at t o) shared 0 ≡ get_or (name_at t p) shared 0
-      f = sym (byte_next t o shared shared-first) ∙ e ∙ byte_next t p shared shared_second
-
-  compared_same : byte_here t (o + shared) ≡ byte_here t (p + shared) → Compared (name_at t o) (name_at t p) bits
-  compared_same e = record { same = λ q. shared_same e; other = λ q. absurd (q refl) }
-
-  compared-other : (j : ℕ) → length t ≤ 16777216 → FirstBit (byte_here t (o + shared)) (byte_here t (p + shared)) j →
-      Compared (name_at t o) (name_at t p) (8 * shared + j)
-  compared-other j few f = record {
-    same = λ q. absurd (not-le_of_lt few_bits (omega (arith, q)));
-    other = λ q. names-differ (name_at t o) (name_at t p) shared j few_bits names_same
-        (rw (sym (byte_next t o shared shared-first), sym (byte_next t p shared shared_second)) f);
-  }
-    where
-      few_bits : 8 * shared + j < bits
-      few_bits = omega (arith, f.small, shared-first, span_le name_char (drop o t), length-drop o t)
+      f : get_or x shared 0 ≡ get_or (name_at t p) shared 0
+      f = e ∙ byte_next t p shared shared_second
 
   -- What `differ` finds, where k bytes are in common and a and b are the next two.
-  module _ (k a b : ℕ) (e : k ≡ shared) (ea : a ≡ byte_here t (o + k)) (eb : b ≡ byte_here t (p + k)) where
-    first : a ≡ byte_here t (o + shared)
-    first = ea ∙ ap (λ (i : ℕ). byte_here t (o + i)) e
+  module _ (k a b : ℕ) (e : k ≡ shared) (ea : a ≡ get_or x k 0) (eb : b ≡ byte_here t (p + k)) where
+    pub found-same : a ≡ b → x ≡ name_at t p
+    found-same q = shared_same (subst (λ (i : ℕ). get_or x i 0 ≡ byte_here t (p + i)) e (sym ea ∙ q ∙ eb))
 
-    second : b ≡ byte_here t (p + shared)
-    second = eb ∙ ap (λ (i : ℕ). byte_here t (p + i)) e
+    pub found-other : (j : ℕ) → FirstBit a b j → NamesDiffer x (name_at t p) (8 * k + j)
+    found-other j f =
+        names-differ x (name_at t p) k j (omega (arith, f.small, e, shared-first, n.short)) (λ i l. names_same i (omega (arith, e)))
+        (rw (sym ea, sym (byte_next t p k (omega (arith, e, shared_second))), sym eb) f)
 
-    pub found-same : a ≡ b → Compared (name_at t o) (name_at t p) bits
-    found-same q = compared_same (sym first ∙ q ∙ second)
-
-    pub found-other : (j : ℕ) → length t ≤ 16777216 → FirstBit a b j → Compared (name_at t o) (name_at t p) (8 * k + j)
-    found-other j few f = rw e (compared-other j few (rw (sym first, sym second) f))
-
-  -- What `same` finds: all z bytes of the first are in common, and no byte of the second is left.
-  pub found-whole : (z k : ℕ) → Name t o z → k ≡ shared → z ≤ k → byte_here t (p + z) ≡ 0 → name_at t o ≡ name_at t p
-  found-whole z k n e l h = shared_same (byte_next t o shared shared-first ∙ past ∙ sym h ∙ ap (λ (i : ℕ). byte_here t (p + i)) whole)
-    where
-      whole : z ≡ shared
-      whole = omega (arith, n.is, shared-first)
-
-      past : get_or (name_at t o) shared 0 ≡ 0
-      past = get_or-eq_default (name_at t o) 0 {n = shared} (omega (arith, n.is, name-long t o))
-
--- The name at a place, as a part of the text.
-name-part : (t : List ℕ) (o z : ℕ) → z ≡ span name_char (drop o t) → take (o + z - o) (drop o t) ≡ name_at t o
-name-part t o z e = ap (λ (k : ℕ). take k (drop o t)) back
-  where
-    back : o + z - o ≡ span name_char (drop o t)
-    back = omega arith
-
--- What `common` gives of it.
-pub part-shared : (t : List ℕ) (o z p k : ℕ) → Name t o z → k ≡ common (take (o + z - o) (drop o t)) (drop p t) → k ≡ in_common t o p
-part-shared t o z p k n h = h ∙ ap (λ (x : List ℕ). common x (drop p t)) (name-part t o z n.is)
+  -- What `same` finds: all bytes of the name are in common, and no byte of the other is left.
+  pub found-whole : shared ≡ length x → byte_here t (p + length x) ≡ 0 → x ≡ name_at t p
+  found-whole e h =
+      shared_same (get_or-eq_default x 0 {n = shared} (omega (arith, e)) ∙ sym h ∙ ap (λ (i : ℕ). byte_here t (p + i)) (sym e))

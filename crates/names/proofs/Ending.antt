@@ -1,31 +1,30 @@
--- The end of `number`: nothing is done where something does not fit; and the rows are cleared where all fits.
---   refused                         nothing has changed
---   rows_fit, rows_taken            the rows are there to be cleared
+-- The end of `number`: the rows are cleared where all fits.
+--   all-fit                         what `take_all` asks
+--   rows_fit                        the rows are there to be cleared
 --   rows-cleared, numbered          and then all is as promised
 -- Letters as in specs/Names; w₁ work before it is cleared, w₂ its rows after. Assumes nothing.
 use Prim.Native.Nat.{ℕ, ◌+◌, ◌*◌, ◌≤◌}
-use mathlib.Core.Path.{◌≡◌, refl, sym, ap, ap₂, ◌∙◌}
+use mathlib.Core.Path.{◌≡◌, sym, ap, ap₂, ◌∙◌}
 use mathlib.Core.List.{List, ◌++◌}
-use mathlib.Core.Bool.{true, false}
+use mathlib.Core.Bool.{true}
 use native.Mathlib.Omega.{arith}
 use lib.ListN.{length, take, drop, replicate, length-drop}
 use lib.Seq.{length-take-le, get_or-drop, ext_get_or}
 use Rattle.seq.specs.Memory.{zeroed}
-use Rattle.seq.proofs.Laws.Bools.{bool_false}
 use Rattle.seq.proofs.Laws.Memory.{length-zeroed}
-use Rattle.names.specs.Names.{Numbered}
+use Rattle.names.specs.Names.{fits, Numbered}
 use Rattle.names.specs.Inner.Calls.{Fit, All}
-use Rattle.names.proofs.Laws.{fits-of, fits-at}
+use Rattle.names.proofs.Laws.{fits-at}
 
-module _ (t fs ms w : List ℕ) where
-  pub refused : (Fit t fs ms w → ⊥) → Numbered t fs ms w ms w false
-  refused h = record { reply = sym (bool_false _ (λ e. h (fits-at t fs ms w e))); tags = refl; work = refl }
+module _ (t fs ms w : List ℕ) (f : fits t fs ms w ≡ true) where
+  pub all-fit : Fit t fs ms w
+  all-fit = fits-at t fs ms w f
 
-  module _ (f : Fit t fs ms w) (ts w₁ : List ℕ) (a : All t fs ms w ts w₁) where
+  module _ (ts w₁ : List ℕ) (a : All t fs ms w ts w₁) where
     pub rows_fit : 3 * length ms ≤ length w₁
-    rows_fit = omega (arith, f.long, a.rows)
+    rows_fit = omega (arith, all-fit.long, a.rows)
 
-    pub rows_taken : 3 * length ms ≡ length (take (3 * length ms) w₁)
+    rows_taken : 3 * length ms ≡ length (take (3 * length ms) w₁)
     rows_taken = sym (length-take-le (3 * length ms) w₁ rows_fit)
 
     -- What is behind the rows is as it was.
@@ -40,7 +39,7 @@ module _ (t fs ms w : List ℕ) where
       rows-cleared = ap₂ (λ (x y : List ℕ). x ++ y) (e ∙ ap (λ (k : ℕ). replicate k 0) (sym rows_taken)) behind
 
       pub work-long : length (w₂ ++ drop (3 * length ms) w₁) ≡ length w
-      work-long = ap length rows-cleared ∙ length-zeroed (3 * length ms) w f.long
+      work-long = ap length rows-cleared ∙ length-zeroed (3 * length ms) w all-fit.long
 
       pub numbered : Numbered t fs ms w ts (w₂ ++ drop (3 * length ms) w₁) true
-      numbered = record { reply = sym (fits-of t fs ms w f); tags = a.tags; work = rows-cleared }
+      numbered = record { reply = sym f; tags = a.tags; work = rows-cleared }

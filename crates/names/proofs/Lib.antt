@@ -3,7 +3,6 @@ pub mod Cases
 mod Shape
 mod Growing
 mod Linking
-mod Digits
 mod Bits
 mod Comparing
 mod Walking

@@ -1,5 +1,6 @@
 -- The two walks down the tree of names: `find` to a leaf, `slot` to the place of a new inner node.
 --   way-right, way-left   the place of the link that bits take
+--   link-number           a number stands for the link that it is the number of
 --   ahead n w k           == how far the bits below the link k can still rise: 0 at a leaf
 --   Step, rep_step        a turn at an inner node: what the next link leads to
 --   Walk, Walks, walk-*   the loop of `find`
@@ -15,10 +16,12 @@ use native.Mathlib.Omega.{arith}
 use lib.Dec.{eqb}
 use lib.ListN.{get_or}
 use borrow.Author.Tests.{eq-eqb, ne_eqb}
+use Rattle.std.proofs.lemmas.Bool.Decides.{nat_tests}
 use Rattle.seq.proofs.Laws.Bools.{bool_cases}
-use Rattle.profile.specs.Spans.{name_at}
 use Rattle.names.specs.Inner.Tree.{Tree, leaf, fork, bits, Rep, rep_leaf, rep_fork, find, Top, top_leaf, top_fork, Grow, new_left, new_right, go_left, go_right}
-use Rattle.names.specs.Inner.Calls.{name_bit, way_of, Found, Grown, Slotted, linked, Put}
+use Rattle.names.specs.declared.link.Link.{Link}
+use Rattle.names.specs.declared.link.Link.TheVariants.{Leaf, Inner}
+use Rattle.names.specs.Inner.Calls.{name_bit, link_of, number_of, way_of, Found, Grown, Slotted, linked, Put}
 use Rattle.names.proofs.Shape.{find-left, find-right}
 
 module _ (n : ℕ) (β : ℕ → Bool) (w : List ℕ) (u i : ℕ) (e : i ≡ get_or w (2 * n + u) 0) where
@@ -30,9 +33,18 @@ module _ (n : ℕ) (β : ℕ → Bool) (w : List ℕ) (u i : ℕ) (e : i ≡ get
   unfolding way_of
   way-left f = rw (sym e, f)
 
--- The bit of an inner node, as the walks read it.
-pub bit-here : (n : ℕ) (w : List ℕ) (k u i : ℕ) → u ≡ k → i ≡ get_or w (2 * n + u) 0 → i ≡ get_or w (2 * n + k) 0
-bit-here n w k u i e f = f ∙ ap (λ (j : ℕ). get_or w (2 * n + j) 0) e
+-- ---- links
+-- A number stands for the link that it is the number of.
+pub link-number : (l : Link) → link_of (number_of l) ≡ l
+unfolding link_of
+link-number (Leaf v) = grind (arith, nat_tests)
+link-number (Inner u) = grind (arith, nat_tests)
+
+leaf_link : (k v : ℕ) → k ≡ 2 * v → link_of k ≡ Leaf v
+leaf_link k v e = ap link_of e ∙ link-number (Leaf v)
+
+fork_link : (k u : ℕ) → k ≡ 2 * u + 1 → link_of k ≡ Inner u
+fork_link k u e = ap link_of e ∙ link-number (Inner u)
 
 -- ---- how far bits can rise
 unfoldable pub ahead : ℕ → List ℕ → ℕ → ℕ
@@ -106,26 +118,24 @@ module _ {n : ℕ} {w : List ℕ} (β : ℕ → Bool) where
           way : u ≡ way_of n β w u
           way = way-left n β w u b eb q
 
-  pub rep_step : {m k : ℕ} {T : Tree} → Rep n w m k T → k % 2 ≡ 1 → Step n w β T k (k / 2)
-  rep_step {k = k} (rep_leaf e l) o = absurd (omega arith)
-  rep_step {k = k} (rep_fork {u = u} {b = b} {l = l} {r = r} e z lu eb a c x y) o =
-      subst (λ (i : ℕ). Step n w β (fork u b l r) k i) half (fork_step lu eb c (ahead_fork n w k u b e eb) x y)
-    where
-      half : u ≡ k / 2
-      half = omega arith
+  pub rep_step : {m k x : ℕ} {T : Tree} → Rep n w m k T → link_of k ≡ Inner x → Step n w β T k x
+  rep_step {k = k} (rep_leaf {v = v} e l) o = let f = leaf_link k v e in absurd (cc)
+  rep_step {k = k} {x = x} (rep_fork {u = u} {b = b} {l = l} {r = r} e z lu eb a c y y') o =
+      let f = fork_link k u e in
+      let same : u ≡ x = cc in
+      subst (λ (i : ℕ). Step n w β (fork u b l r) k i) same (fork_step lu eb c (ahead_fork n w k u b e eb) y y')
 
-  pub rep-end : {m k : ℕ} {T : Tree} → Rep n w m k T → (k % 2 ≡ 1 → ⊥) → T ≡ leaf (k / 2)
-  rep-end {k = k} (rep_leaf e l) o = ap leaf (omega (arith, e))
-  rep-end {k = k} (rep_fork e z lu eb a c x y) o = absurd (o (omega arith))
+  pub rep-end : {m k x : ℕ} {T : Tree} → Rep n w m k T → link_of k ≡ Leaf x → T ≡ leaf x
+  rep-end {k = k} (rep_leaf {v = v} e l) o = let f = leaf_link k v e in cc
+  rep-end {k = k} (rep_fork {u = u} e z lu eb a c y y') o = let f = fork_link k u e in absurd (cc)
 
--- What a turn at the link k asks, and that it brings the walk nearer to its end.
-pub record Turn (n : ℕ) (w : List ℕ) (β : ℕ → Bool) (k : ℕ) : Type 0 where
-  pub node : k / 2 < n
-  pub small : way_of n β w (k / 2) < 2 * n
-  pub less : (p : ℕ) → p ≡ way_of n β w (k / 2) → ahead n w (get_or w p 0) < ahead n w k
+-- What a turn at the link k to the inner node u asks, and that it brings the walk nearer to its end.
+pub record Turn (n : ℕ) (w : List ℕ) (β : ℕ → Bool) (k u : ℕ) : Type 0 where
+  pub node : u < n
+  pub less : (p : ℕ) → p ≡ way_of n β w u → ahead n w (get_or w p 0) < ahead n w k
 
-turn-of : {n k : ℕ} {w : List ℕ} {β : ℕ → Bool} {T : Tree} → Step n w β T k (k / 2) → Turn n w β k
-turn-of s = record { node = s.node; small = s.small; less = λ p e. rw e s.less }
+turn-of : {n k u : ℕ} {w : List ℕ} {β : ℕ → Bool} {T : Tree} → Step n w β T k u → Turn n w β k u
+turn-of s = record { node = s.node; less = λ p e. rw e s.less }
 
 -- ---- to a leaf
 -- The link k leads to a part of T in which the bits lead to the same leaf.
@@ -135,33 +145,41 @@ pub record Walk (n : ℕ) (w : List ℕ) (β : ℕ → Bool) (T : Tree) (k : ℕ
   pub holds : Rep n w from k part
   pub leads : find β part ≡ find β T
 
-pub record Walks (n : ℕ) (w : List ℕ) (β : ℕ → Bool) (k : ℕ) : Type 0 where
-  pub walk : (T : Tree) → Rep n w 0 (get_or w 0 0) T → Walk n w β T k
+-- So does the link at the place p, whichever tree the rows hold.
+pub record Walks (n : ℕ) (w : List ℕ) (β : ℕ → Bool) (p : ℕ) : Type 0 where
+  pub small : p < 2 * n
+  pub walk : (T : Tree) → Rep n w 0 (get_or w 0 0) T → Walk n w β T (get_or w p 0)
 
-pub walks_start : (n : ℕ) (w : List ℕ) (β : ℕ → Bool) → Walks n w β (get_or w 0 0)
-walks_start n w β = record { walk = λ T r. record { from = 0; part = T; holds = r; leads = refl } }
+-- There is a node.
+rep-some : {n m k : ℕ} {w : List ℕ} {T : Tree} → Rep n w m k T → 0 < n
+rep-some (rep_leaf e l) = omega arith
+rep-some (rep_fork e z l eb a c x y) = omega arith
 
-module _ {n : ℕ} {w : List ℕ} {β : ℕ → Bool} {k : ℕ} (s : Walks n w β k) where
-  pub walks_turn : (T : Tree) → Rep n w 0 (get_or w 0 0) T → k % 2 ≡ 1 → Turn n w β k
-  walks_turn T r o = turn-of (rep_step β (s.walk T r).holds o)
+pub walks_start : (n : ℕ) (w : List ℕ) (β : ℕ → Bool) (T : Tree) → Rep n w 0 (get_or w 0 0) T → Walks n w β 0
+walks_start n w β T r = record { small = omega (arith, rep-some r); walk = λ T r. record { from = 0; part = T; holds = r; leads = refl } }
 
-  pub walks_step : (p : ℕ) → p ≡ way_of n β w (k / 2) → k % 2 ≡ 1 → Walks n w β (get_or w p 0)
-  walks_step p e o = record { walk = λ T r. moved T r }
-    where
-      moved : (T : Tree) → Rep n w 0 (get_or w 0 0) T → Walk n w β T (get_or w p 0)
-      moved T r =
-          let y : Walk n w β T k = s.walk T r in
-          let z : Step n w β y.part k (k / 2) = rep_step β y.holds o in
-          record { from = z.from; part = z.next; holds = rw e z.holds; leads = z.leads ∙ y.leads }
+module _ {n : ℕ} {w : List ℕ} {β : ℕ → Bool} {p : ℕ} (s : Walks n w β p) where
+  module _ (S : Tree) (held : Rep n w 0 (get_or w 0 0) S) (u : ℕ) (o : link_of (get_or w p 0) ≡ Inner u) where
+    pub walks_turn : Turn n w β (get_or w p 0) u
+    walks_turn = turn-of (rep_step β (s.walk S held).holds o)
 
-  pub walks_end : (t : List ℕ) (o : ℕ) → β ≡ name_bit (name_at t o) → (k % 2 ≡ 1 → ⊥) → (r : ℕ) → r ≡ k / 2 → Found t o w n r
-  unfolding find
-  walks_end t o e h r f = record { leads = λ T q. at_leaf T q }
-    where
-      at_leaf : (T : Tree) → Rep n w 0 (get_or w 0 0) T → r ≡ find (name_bit (name_at t o)) T
-      at_leaf T q =
-          let y : Walk n w β T k = s.walk T q in
-          f ∙ sym (ap (find β) (rep-end β y.holds h)) ∙ y.leads ∙ ap (λ (γ : ℕ → Bool). find γ T) e
+    pub walks_step : (q : ℕ) → q ≡ way_of n β w u → Walks n w β q
+    walks_step q e = record { small = rw e (rep_step β (s.walk S held).holds o).small; walk = λ T r. moved T r }
+      where
+        moved : (T : Tree) → Rep n w 0 (get_or w 0 0) T → Walk n w β T (get_or w q 0)
+        moved T r =
+            let y : Walk n w β T (get_or w p 0) = s.walk T r in
+            let z : Step n w β y.part (get_or w p 0) u = rep_step β y.holds o in
+            record { from = z.from; part = z.next; holds = rw e z.holds; leads = z.leads ∙ y.leads }
+
+pub walks_end : {n : ℕ} {w x : List ℕ} {p : ℕ} → Walks n w (name_bit x) p → (v : ℕ) → link_of (get_or w p 0) ≡ Leaf v → Found x w n v
+unfolding find
+walks_end {n} {w} {x} {p} s v h = record { leads = λ T q. at_leaf T q }
+  where
+    at_leaf : (T : Tree) → Rep n w 0 (get_or w 0 0) T → v ≡ find (name_bit x) T
+    at_leaf T q =
+        let y : Walk n w (name_bit x) T (get_or w p 0) = s.walk T q in
+        sym (ap (find (name_bit x)) (rep-end (name_bit x) y.holds h)) ∙ y.leads
 
 -- ---- to the place of a new inner node
 -- The link at the place p leads to a part of T; where that part grows, T grows.
@@ -175,11 +193,6 @@ pub record Downs (n : ℕ) (w : List ℕ) (β : ℕ → Bool) (d p : ℕ) : Type
   pub small : p < 2 * n
   pub down : (v : ℕ) (T : Tree) → Rep n w 0 (get_or w 0 0) T → Down n w β d v T p
 
--- There is a node.
-pub rep-some : {n m k : ℕ} {w : List ℕ} {T : Tree} → Rep n w m k T → 0 < n
-rep-some (rep_leaf e l) = omega arith
-rep-some (rep_fork e z l eb a c x y) = omega arith
-
 pub downs-start : (n : ℕ) (w : List ℕ) (β : ℕ → Bool) (d : ℕ) (T : Tree) → Rep n w 0 (get_or w 0 0) T → Downs n w β d 0
 downs-start n w β d T r = record {
   small = omega (arith, rep-some r);
@@ -187,42 +200,43 @@ downs-start n w β d T r = record {
 }
 
 module _ {n : ℕ} {w : List ℕ} {β : ℕ → Bool} {d p : ℕ} (s : Downs n w β d p) where
-  pub downs-turn : (T : Tree) → Rep n w 0 (get_or w 0 0) T → get_or w p 0 % 2 ≡ 1 → Turn n w β (get_or w p 0)
-  downs-turn T r o = turn-of (rep_step β (s.down 0 T r).holds o)
-
-  pub downs-step : (T : Tree) → Rep n w 0 (get_or w 0 0) T → get_or w p 0 % 2 ≡ 1 → get_or w (2 * n + get_or w p 0 / 2) 0 < d →
-      (q : ℕ) → q ≡ way_of n β w (get_or w p 0 / 2) → Downs n w β d q
-  downs-step S held o h q e = record { small = rw e (rep_step β (s.down 0 S held).holds o).small; down = λ v T r. moved v T r }
-    where
-      moved : (v : ℕ) (T : Tree) → Rep n w 0 (get_or w 0 0) T → Down n w β d v T q
-      moved v T r =
-          let y : Down n w β d v T p = s.down v T r in
-          let z : Step n w β y.part (get_or w p 0) (get_or w p 0 / 2) = rep_step β y.holds o in
-          record { from = z.from; part = z.next; holds = rw e z.holds; back = λ i g. y.back i (z.grow d v p i h (subst (λ (j : ℕ). Grown n β d v j z.next i) e g)) }
-
   -- The tree grows here, where all bits from here on are d or more.
   grown-here : (v : ℕ) (T : Tree) → Top d T → Grown n β d v p T p
   grown-here v T h =
       ⊎_elim (λ e. record { tree = fork v d T (leaf v); grows = new_right h e }) (λ e. record { tree = fork v d (leaf v) T; grows = new_left h e }) (bool_cases (β d))
 
-  pub downs-stop : (t : List ℕ) (o : ℕ) → β ≡ name_bit (name_at t o) → get_or w p 0 % 2 ≡ 1 → d ≤ get_or w (2 * n + get_or w p 0 / 2) 0 → Slotted t o w n d p
-  downs-stop t o e h l = record { small = s.small; grown = λ v T r. subst (λ (γ : ℕ → Bool). Grown n γ d v 0 T p) e (here v T r) }
-    where
-      here : (v : ℕ) (T : Tree) → Rep n w 0 (get_or w 0 0) T → Grown n β d v 0 T p
-      here v T r = let y : Down n w β d v T p = s.down v T r in y.back p (grown-here v y.part ((rep_step β y.holds h).top d l))
+  module _ (S : Tree) (held : Rep n w 0 (get_or w 0 0) S) (u : ℕ) (o : link_of (get_or w p 0) ≡ Inner u) where
+    pub downs-turn : Turn n w β (get_or w p 0) u
+    downs-turn = turn-of (rep_step β (s.down 0 S held).holds o)
 
-  pub downs-end : (t : List ℕ) (o : ℕ) → β ≡ name_bit (name_at t o) → (get_or w p 0 % 2 ≡ 1 → ⊥) → Slotted t o w n d p
-  downs-end t o e h = record { small = s.small; grown = λ v T r. subst (λ (γ : ℕ → Bool). Grown n γ d v 0 T p) e (here v T r) }
+    pub downs-step : get_or w (2 * n + u) 0 < d → (q : ℕ) → q ≡ way_of n β w u → Downs n w β d q
+    downs-step h q e = record { small = rw e (rep_step β (s.down 0 S held).holds o).small; down = λ v T r. moved v T r }
+      where
+        moved : (v : ℕ) (T : Tree) → Rep n w 0 (get_or w 0 0) T → Down n w β d v T q
+        moved v T r =
+            let y : Down n w β d v T p = s.down v T r in
+            let z : Step n w β y.part (get_or w p 0) u = rep_step β y.holds o in
+            record { from = z.from; part = z.next; holds = rw e z.holds; back = λ i g. y.back i (z.grow d v p i h (subst (λ (j : ℕ). Grown n β d v j z.next i) e g)) }
+
+module _ {n : ℕ} {w x : List ℕ} {d p : ℕ} (s : Downs n w (name_bit x) d p) where
+  pub downs-stop : (u : ℕ) → link_of (get_or w p 0) ≡ Inner u → d ≤ get_or w (2 * n + u) 0 → Slotted x w n d p
+  downs-stop u h l = record { small = s.small; grown = λ v T r. here v T r }
     where
-      here : (v : ℕ) (T : Tree) → Rep n w 0 (get_or w 0 0) T → Grown n β d v 0 T p
+      here : (v : ℕ) (T : Tree) → Rep n w 0 (get_or w 0 0) T → Grown n (name_bit x) d v 0 T p
+      here v T r = let y : Down n w (name_bit x) d v T p = s.down v T r in y.back p (grown-here s v y.part ((rep_step (name_bit x) y.holds h).top d l))
+
+  pub downs-end : (i : ℕ) → link_of (get_or w p 0) ≡ Leaf i → Slotted x w n d p
+  downs-end i h = record { small = s.small; grown = λ v T r. here v T r }
+    where
+      here : (v : ℕ) (T : Tree) → Rep n w 0 (get_or w 0 0) T → Grown n (name_bit x) d v 0 T p
       here v T r =
-          let y : Down n w β d v T p = s.down v T r in
-          y.back p (grown-here v y.part (rw (rep-end β y.holds h) top_leaf))
+          let y : Down n w (name_bit x) d v T p = s.down v T r in
+          y.back p (grown-here s v y.part (rw (rep-end (name_bit x) y.holds h) top_leaf))
 
 -- ---- the new inner node is put there
-module _ (t : List ℕ) (o : ℕ) (w : List ℕ) (n v d q : ℕ) (s : Slotted t o w n d q) (w' : List ℕ) where
-  pub put_right : name_bit (name_at t o) d ≡ true → w' ≡ linked n v q d (n + v) v w → Put t o w n v d w'
+module _ (x w : List ℕ) (n v d q : ℕ) (s : Slotted x w n d q) (w' : List ℕ) where
+  pub put_right : name_bit x d ≡ true → w' ≡ linked n v q d (n + v) v w → Put x w n v d w'
   put_right b e = record { place = q; link = s.small; grown = s.grown v; rows = rw b e }
 
-  pub put-left : name_bit (name_at t o) d ≡ false → w' ≡ linked n v q d v (n + v) w → Put t o w n v d w'
+  pub put-left : name_bit x d ≡ false → w' ≡ linked n v q d v (n + v) w → Put x w n v d w'
   put-left b e = record { place = q; link = s.small; grown = s.grown v; rows = rw b e }

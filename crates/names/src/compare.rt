@@ -1,27 +1,20 @@
-// Two names of a text, bit by bit: the bits of each byte from the lowest, and zeros past a name's end.
-ghost use Rattle.std.specs.Prelude.{◌≡◌, ◌<◌};
-ghost use Rattle.profile.specs.Spans.{name_at};
-ghost use Rattle.names.specs.Inner.Bits.{digit};
-ghost use Rattle.names.specs.Inner.Calls.{name_bit, byte_here, in_common, Name, FirstBit, DifferPre, Compared, Alike};
+// Names, bit by bit: the bits of each byte from the lowest, and zeros past a name's end. The one name is cut out of the text; the other is looked at where it
+// stands, and no further than it agrees with the first, however long it is.
+ghost use Rattle.std.specs.Prelude.{◌≡◌, slice_index};
+ghost use Rattle.names.specs.Inner.Calls.{name_bit, byte_here, Name, FirstBit, DifferPre, Compared, Alike};
 
-// Bit j of a byte, as 0 or 1.
-fn bit_of(x: u8, j: usize) -> u8
-    requires { j < 8 }
-    ensures { result ≡ digit x j }
+// Byte k of a name, or 0 past its end.
+fn byte_of(name: &[u8], k: usize) -> u8
+    ensures { result ≡ slice_index name.now k }
 {
-    (x >> (j as u8)) % 2
+    name.get(k).copied().unwrap_or(0)
 }
 
-// Bit i of the name of `size` bytes at a place.
-pub(crate) fn bit_at(text: &[u8], place: usize, size: usize, i: usize) -> bool
-    requires { Name text.now place size }
-    ensures { result ≡ name_bit (name_at text.now place) i }
+// Bit i of a name.
+pub(crate) fn bit_at(name: &[u8], i: usize) -> bool
+    ensures { result ≡ name_bit name.now i }
 {
-    let k = i / 8;
-    if k < size {
-        return bit_of(text[place + k], i % 8) == 1;
-    }
-    false
+    byte_of(name, i / 8) >> (i % 8) & 1 == 1
 }
 
 // The first bit in which two different bytes differ.
@@ -29,59 +22,38 @@ fn first_bit(x: u8, y: u8) -> usize
     requires { x ≡ y → ⊥ }
     ensures { FirstBit x y result }
 {
-    let mut j: usize = 0;
-    while j < 7 {
-        if bit_of(x, j) != bit_of(y, j) {
-            return j;
-        }
-        j += 1;
-    }
-    j
+    (x ^ y).trailing_zeros() as usize
 }
 
 // The first byte of the name at a place, or 0 where none stands there.
 fn name_byte(text: &[u8], place: usize) -> u8
     ensures { result ≡ byte_here text.now place }
 {
-    if place < text.len() {
-        let end = place + 1;
-        if octets::skip(&text[place..end], 0, octets::NAMECHARS) == 1 {
-            return text[place];
-        }
+    if place < text.len() && octets::skip(&text[place..place + 1], 0, octets::NAMECHARS) == 1 {
+        text[place]
+    } else {
+        0
     }
-    0
 }
 
-// How many bytes the name of `size` bytes at a place has in common with what stands at another place.
-fn in_common(text: &[u8], place: usize, size: usize, other: usize) -> usize
-    requires { Name text.now place size }
-    ensures { result ≡ in_common text.now place other }
+// The first bit in which a name and the name at a place differ; none where they are the same.
+pub(crate) fn differ(name: &[u8], text: &[u8], other: usize) -> Option<usize>
+    requires { DifferPre name.now other }
+    ensures { Compared name.now text.now other result }
 {
-    let end = place + size;
-    octets::common(&text[place..end], text, other)
-}
-
-// The first bit in which the name of `size` bytes at a place and the name at another place differ, or 268,435,456 where they are the same.
-pub(crate) fn differ(text: &[u8], place: usize, size: usize, other: usize) -> usize
-    requires { DifferPre text.now place size other }
-    ensures { Compared (name_at text.now place) (name_at text.now other) result }
-{
-    let k = in_common(text, place, size, other);
-    let x = name_byte(text, place + k);
+    let k = octets::common(name, text, other);
+    let x = byte_of(name, k);
     let y = name_byte(text, other + k);
     if x == y {
-        return 268435456;
+        return None;
     }
-    8 * k + first_bit(x, y)
+    Some(8 * k + first_bit(x, y))
 }
 
-// Whether the name of `size` bytes at a place and the name at another place are the same bytes.
-pub(crate) fn same(text: &[u8], place: usize, size: usize, other: usize) -> bool
-    requires { DifferPre text.now place size other }
-    ensures { Alike (name_at text.now place) (name_at text.now other) result }
+// Whether a name and the name at a place are the same bytes.
+pub(crate) fn same(name: &[u8], text: &[u8], other: usize) -> bool
+    requires { DifferPre name.now other }
+    ensures { Alike name.now text.now other result }
 {
-    if in_common(text, place, size, other) < size {
-        return false;
-    }
-    name_byte(text, other + size) == 0
+    octets::common(name, text, other) == name.len() && name_byte(text, other + name.len()) == 0
 }

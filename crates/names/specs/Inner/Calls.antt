@@ -1,21 +1,23 @@
 -- What the functions of this crate ask of and promise each other.
 --   name_bit x i              == bit i of a name: the bits of its bytes in order, and 0 past its end
 --   name_here t fs y          == the name of node y
---   Name t o z               == the name at the place o of the text has z bytes
+--   Name x                   == every byte of x goes on with a name
 --   byte_here t o             == the first byte of the name at the place o: 0 where there is none
---   in_common t o p           == how many bytes the name at the place o has in common with what stands at the place p
---   Compared x y r           == r is the first bit in which two names differ, or `bits` where they are the same
+--   Compared x t p r         == r is the first bit in which the name x and that at the place p differ, or None where they are the same
+--   link_of k, number_of l   == the link that a number stands for, and the number of a link
 --   way_of n β w u            == the place of the link that bits β take at the inner node u
 --   linked n v q d a b w     == the rows w with a new inner node v over what is at the place q: its bit is d, the link to the leaf v at a, and what was at q at b
 --   Index t fs n v seen ts w == the rows w hold a tree of the names seen at the nodes before v; its leaves have a number in ts
 --   Given t fs seen ts y     == the node y has the number of its name in ts
 --   State t fs ms w₀ v ts w c == the nodes before v are numbered: ts and w are what the marks ms and the work w₀ have become, and c names were seen
--- Letters: t text, fs places of the nodes, o place, z size; x y bytes or names; n nodes, u v nodes, q place of a link, d bit; seen names seen. Assumes nothing.
-use Rattle.std.specs.Prelude.{ℕ, suc, ◌+◌, ◌*◌, ◌/◌, ◌%◌, ◌≤◌, ◌<◌, ◌≡◌, List, ◌++◌, Bool, true, cond, length, get_or, set, take, drop}
+-- Letters: t text, fs places of the nodes, o p places; x y bytes or names; l link, k its number; n nodes, u v nodes, q place of a link, d bit; seen names seen. Assumes nothing.
+use Rattle.std.specs.Prelude.{ℕ, suc, ◌+◌, ◌*◌, ◌/◌, ◌%◌, ◌≤◌, ◌<◌, ◌≡◌, List, ◌++◌, Bool, true, cond, eqb, length, get_or, set, take, drop, Option, None, Some}
 use Rattle.profile.specs.Bytes.{name_char}
-use Rattle.profile.specs.Spans.{span, common, name_at}
+use Rattle.profile.specs.Spans.{name_at}
 use Rattle.profile.specs.Tags.{known, place, tags_after, tags_of}
 use Rattle.names.specs.Inner.Bits.{bit_of}
+use Rattle.names.specs.declared.link.Link.{Link}
+use Rattle.names.specs.declared.link.Link.TheVariants.{Leaf, Inner}
 use Rattle.names.specs.Names.{names}
 use Rattle.names.specs.Inner.Tree.{Tree, In, Has, Apart, bits, Rep, Told, find, Grow}
 
@@ -35,10 +37,6 @@ pub record NamesDiffer (x y : List ℕ) (r : ℕ) : Type 0 where
   pub alike : (i : ℕ) → i < r → name_bit x i ≡ name_bit y i
   pub differs : name_bit x r ≡ name_bit y r → ⊥
 
-pub record Compared (x y : List ℕ) (r : ℕ) : Type 0 where
-  pub same : r ≡ bits → x ≡ y
-  pub other : (r ≡ bits → ⊥) → NamesDiffer x y r
-
 -- ---- names in a text
 abbrev pub name_here : List ℕ → List ℕ → ℕ → List ℕ
 name_here t fs y = name_at t (get_or fs y 0 + 1)
@@ -46,70 +44,79 @@ name_here t fs y = name_at t (get_or fs y 0 + 1)
 unfoldable pub byte_here : List ℕ → ℕ → ℕ
 byte_here t o = get_or (name_at t o) 0 0
 
-abbrev pub in_common : List ℕ → ℕ → ℕ → ℕ
-in_common t o p = common (name_at t o) (drop p t)
+pub record Name (x : List ℕ) : Type 0 where
+  pub letters : (i : ℕ) → i < length x → name_char (get_or x i 0) ≡ true
+  pub short : length x ≤ 16777216
 
-pub record Name (t : List ℕ) (o z : ℕ) : Type 0 where
-  pub within : o + z ≤ length t
-  pub is : z ≡ span name_char (drop o t)
-
--- The name at the place o is compared with that at the place p, which is a number of 32 bits or one more.
-pub record DifferPre (t : List ℕ) (o z p : ℕ) : Type 0 where
-  pub name : Name t o z
-  pub few : length t ≤ 16777216
+-- The name x is compared with that at the place p, which is a number of 32 bits or one more.
+pub record DifferPre (x : List ℕ) (p : ℕ) : Type 0 where
+  pub name : Name x
   pub near : p ≤ 4294967296
 
+pub record Compared (x t : List ℕ) (p : ℕ) (r : Option ℕ) : Type 0 where
+  pub same : r ≡ None → x ≡ name_at t p
+  pub other : (d : ℕ) → r ≡ Some d → NamesDiffer x (name_at t p) d
+
 -- Where r says so, two names are the same.
-pub record Alike (x y : List ℕ) (r : Bool) : Type 0 where
-  pub same : r ≡ true → x ≡ y
+pub record Alike (x t : List ℕ) (p : ℕ) (r : Bool) : Type 0 where
+  pub same : r ≡ true → x ≡ name_at t p
 
 -- ---- the names met lately
 -- A name has bytes.
-pub record KeyPre (t : List ℕ) (o z : ℕ) : Type 0 where
-  pub name : Name t o z
-  pub some : 0 < z
-  pub short : length t ≤ 16777216
+pub record KeyPre (x : List ℕ) : Type 0 where
+  pub name : Name x
+  pub some : 0 < length x
 
--- The node v, whose name is at the place o, is one of the nodes.
-pub record RecallPre (t fs ts : List ℕ) (v o z : ℕ) : Type 0 where
-  pub name : Name t o z
-  pub short : length t ≤ 16777216
+-- The node v, whose name is x, is one of the nodes.
+pub record RecallPre (x fs ts : List ℕ) (v : ℕ) : Type 0 where
+  pub name : Name x
   pub node : v < length ts
   pub few : length ts ≤ 65536
   pub placed : length ts ≤ length fs
 
--- A node before v that has the name at the place o, and r as its number.
-pub record Twin (t fs ts : List ℕ) (v o r : ℕ) : Type 0 where
+-- A node before v that has the name x, and r as its number.
+pub record Twin (x t fs ts : List ℕ) (v r : ℕ) : Type 0 where
+  pub some : r ≡ 0 → ⊥
   pub node : ℕ
   pub before : node < v
   pub number : r ≡ get_or ts node 0
-  pub name : name_at t o ≡ name_here t fs node
+  pub name : x ≡ name_here t fs node
 
--- r is the number of such a node, or 0.
-pub record Recalled (t fs ts : List ℕ) (v o r : ℕ) : Type 0 where
-  pub twin : (r ≡ 0 → ⊥) → Twin t fs ts v o r
+-- What r has, if anything, is the number of such a node.
+pub record Recalled (x t fs ts : List ℕ) (v : ℕ) (r : Option ℕ) : Type 0 where
+  pub twin : (m : ℕ) → r ≡ Some m → Twin x t fs ts v m
+
+-- ---- links
+unfoldable pub link_of : ℕ → Link
+link_of k = cond (eqb (k % 2) 0) (Leaf (k / 2)) (Inner (k / 2))
+
+abbrev pub node_of : Link → ℕ
+node_of (Leaf v) = v
+node_of (Inner u) = u
+
+abbrev pub number_of : Link → ℕ
+number_of (Leaf v) = 2 * v
+number_of (Inner u) = 2 * u + 1
 
 -- ---- the tree
 unfoldable pub way_of : ℕ → (ℕ → Bool) → List ℕ → ℕ → ℕ
 way_of n β w u = cond (β (get_or w (2 * n + u) 0)) (n + u) u
 
-pub record WayPre (t : List ℕ) (o z : ℕ) (w : List ℕ) (n u : ℕ) : Type 0 where
-  pub name : Name t o z
+pub record WayPre (w : List ℕ) (n u : ℕ) : Type 0 where
   pub few : n ≤ 65536
   pub long : 3 * n ≤ length w
   pub node : u < n
 
 -- The rows hold some tree.
-pub record WalkPre (t : List ℕ) (o z : ℕ) (w : List ℕ) (n : ℕ) : Type 0 where
-  pub name : Name t o z
+pub record WalkPre (w : List ℕ) (n : ℕ) : Type 0 where
   pub few : n ≤ 65536
   pub long : 3 * n ≤ length w
   pub tree : Tree
   pub holds : Rep n w 0 (get_or w 0 0) tree
 
 -- Whichever tree they hold, r is the leaf that the name leads to.
-pub record Found (t : List ℕ) (o : ℕ) (w : List ℕ) (n r : ℕ) : Type 0 where
-  pub leads : (T : Tree) → Rep n w 0 (get_or w 0 0) T → r ≡ find (name_bit (name_at t o)) T
+pub record Found (x w : List ℕ) (n r : ℕ) : Type 0 where
+  pub leads : (T : Tree) → Rep n w 0 (get_or w 0 0) T → r ≡ find (name_bit x) T
 
 -- The tree T, whose link is at the place p, grows at the place q.
 pub record Grown (n : ℕ) (β : ℕ → Bool) (d v p : ℕ) (T : Tree) (q : ℕ) : Type 0 where
@@ -117,9 +124,9 @@ pub record Grown (n : ℕ) (β : ℕ → Bool) (d v p : ℕ) (T : Tree) (q : ℕ
   pub grows : Grow n β d v p T q tree
 
 -- Whichever tree the rows hold, it grows at the place r by any leaf that has the name's bits and first differs from it in bit d.
-pub record Slotted (t : List ℕ) (o : ℕ) (w : List ℕ) (n d r : ℕ) : Type 0 where
+pub record Slotted (x w : List ℕ) (n d r : ℕ) : Type 0 where
   pub small : r < 2 * n
-  pub grown : (v : ℕ) (T : Tree) → Rep n w 0 (get_or w 0 0) T → Grown n (name_bit (name_at t o)) d v 0 T r
+  pub grown : (v : ℕ) (T : Tree) → Rep n w 0 (get_or w 0 0) T → Grown n (name_bit x) d v 0 T r
 
 unfoldable pub linked : ℕ → ℕ → ℕ → ℕ → ℕ → ℕ → List ℕ → List ℕ
 linked n v q d near far w = set (set (set (set w (2 * n + v) d) near (2 * v)) far (get_or w q 0)) q (2 * v + 1)
@@ -133,17 +140,17 @@ pub record LinkPre (n v q d near far : ℕ) (w : List ℕ) : Type 0 where
   pub here : near < 2 * n
   pub there : far < 2 * n
 
-pub record PutPre (t : List ℕ) (o z : ℕ) (w : List ℕ) (n v d : ℕ) : Type 0 where
-  pub walk : WalkPre t o z w n
+pub record PutPre (w : List ℕ) (n v d : ℕ) : Type 0 where
+  pub walk : WalkPre w n
   pub node : v < n
   pub bit : d < bits
 
 -- Whichever tree the rows held, it grows by the leaf v.
-pub record Put (t : List ℕ) (o : ℕ) (w : List ℕ) (n v d : ℕ) (w' : List ℕ) : Type 0 where
+pub record Put (x w : List ℕ) (n v d : ℕ) (w' : List ℕ) : Type 0 where
   pub place : ℕ
   pub link : place < 2 * n
-  pub grown : (T : Tree) → Rep n w 0 (get_or w 0 0) T → Grown n (name_bit (name_at t o)) d v 0 T place
-  pub rows : w' ≡ cond (name_bit (name_at t o) d) (linked n v place d (n + v) v w) (linked n v place d v (n + v) w)
+  pub grown : (T : Tree) → Rep n w 0 (get_or w 0 0) T → Grown n (name_bit x) d v 0 T place
+  pub rows : w' ≡ cond (name_bit x d) (linked n v place d (n + v) v w) (linked n v place d v (n + v) w)
 
 -- ---- the names seen
 -- A leaf y is a node before v that has a number.
@@ -199,13 +206,13 @@ pub record TurnPre (t fs : List ℕ) (v c : ℕ) (ts w : List ℕ) : Type 0 wher
   pub work : List ℕ
   pub state : State t fs marks work v ts w c
 
--- And v, which has a mark, has the name of z bytes at the place o.
-pub record NamedPre (t fs : List ℕ) (o z v c : ℕ) (ts w : List ℕ) : Type 0 where
+-- And v, which has a mark, has the name x.
+pub record NamedPre (x t fs : List ℕ) (v c : ℕ) (ts w : List ℕ) : Type 0 where
   pub turn : TurnPre t fs v c ts w
   pub marked : get_or ts v 0 ≡ 0 → ⊥
-  pub place : o ≡ get_or fs v 0 + 1
-  pub name : Name t o z
-  pub some : z ≡ 0 → ⊥
+  pub name : Name x
+  pub here : x ≡ name_here t fs v
+  pub some : length x ≡ 0 → ⊥
 
 -- Then v is numbered too.
 pub record Turned (t fs : List ℕ) (v c : ℕ) (ts w ts' w' : List ℕ) (c' : ℕ) : Type 0 where

@@ -1,18 +1,11 @@
 -- `names::compare::bit_at` meets its contract.
-use mathlib.Core.Path.{◌∙◌}
-use native.Mathlib.Omega.{arith}
-use Rattle.names.proofs.Digits.{bit-seen}
-use Rattle.names.proofs.Comparing.{bit_in, bit_past}
+use Prim.Native.Nat.{◌%◌}
+use mathlib.Core.Path.{ap, ◌∙◌}
+use Rattle.names.specs.Inner.Bits.{bit_of}
+use Rattle.names.specs.Inner.Calls.{name_bit}
+use Rattle.names.proofs.Bits.{bit-seen}
 use Rattle.names.proofs.compare.bit_at.Goals as goal
 
-pub overflow_add-place : goal.overflow_add-place
-overflow_add-place c = omega (arith, c.requires.within, c.well_formed)
-
-pub bounds-text-place : goal.bounds-text-place
-bounds-text-place c = omega (arith, c.requires.within)
-
-pub returns-then-k-size : goal.returns-then-k-size
-returns-then-k-size c = bit-seen _ _ _ c.bit_of.ensures ∙ bit_in _ _ _ c.requires _ c.if-k-size.true
-
 pub returns : goal.returns
-returns c = bit_past _ _ _ c.requires _ c.if-k-size.false
+unfolding name_bit
+returns c = bit-seen _ _ ∙ ap (λ a. bit_of a (c.args.i % 8)) c.byte_of.ensures

@@ -13,7 +13,7 @@ use Rattle.profile.specs.Spans.{span}
 use Rattle.profile.proofs.Classes.{class-rule}
 use Rattle.names.proofs.Comparing.{byte-is, byte-stop, byte_past}
 use Rattle.names.proofs.compare.name_byte.Goals as goal
-use Rattle.names.proofs.compare.name_byte.Goals.{After-skip}
+use Rattle.names.proofs.compare.name_byte.Goals.{else-place-text-via-then-place-text+else-skip-eq1, else-place-text-via-else-place-text}
 
 -- ---- a run over one byte
 part-one : (t : List ℕ) (i : ℕ) → i < length t → take (i + 1 - i) (drop i t) ≡ get_or t i 0 ∷ []
@@ -38,24 +38,21 @@ fails true e = absurd (e refl)
 fails false e = refl
 
 -- ---- the byte that `skip` has looked at
-module _ (c : After-skip) where
-  abbrev text : List ℕ
-  text = c.args.text.now
-
-  abbrev place : ℕ
-  place = c.args.place
-
-  ran : c.skip.result ≡ cond (within NAMECHARS (get_or text place 0)) 1 0
-  ran = c.skip.ensures ∙ run-one (within NAMECHARS) text place c.if-place-text.true
-
-  rule : name_char (get_or text place 0) ≡ within NAMECHARS (get_or text place 0)
-  rule = (class-rule (get_or text place 0) (omega (arith, c.type_inv.text place))).of-name_char
+ran : (t : List ℕ) (i r : ℕ) → i < length t → get_or t i 0 < 256 → r ≡ 0 + span (within NAMECHARS) (drop 0 (take (i + 1 - i) (drop i t))) →
+    r ≡ cond (name_char (get_or t i 0)) 1 0
+ran t i r l b e =
+    e ∙ run-one (within NAMECHARS) t i l ∙ ap (λ (p : Bool). cond p 1 0) (sym (class-rule (get_or t i 0) b).of-name_char)
 
 pub returns-then-skip-eq1 : goal.returns-then-skip-eq1
-returns-then-skip-eq1 c = byte-is _ _ c.if-place-text.true (rule (goal.at.returns-then-skip-eq1 c).After-skip ∙ passes _ (sym (ran (goal.at.returns-then-skip-eq1 c).After-skip) ∙ c.if-skip-eq1.true))
-
-pub returns-else-skip-eq1 : goal.returns-else-skip-eq1
-returns-else-skip-eq1 c = byte-stop _ _ c.if-place-text.true (rule (goal.at.returns-else-skip-eq1 c).After-skip ∙ fails _ (λ q. c.if-skip-eq1.false (ran (goal.at.returns-else-skip-eq1 c).After-skip ∙ q)))
+returns-then-skip-eq1 c =
+    byte-is _ _ c.if-place-text.true
+    (passes _ (sym (ran _ _ _ c.if-place-text.true (omega (arith, c.type_inv.text c.args.place)) c.skip.ensures) ∙ c.if-skip-eq1.true))
 
 pub returns-else-place-text : goal.returns-else-place-text
-returns-else-place-text c = byte_past _ _ c.if-place-text.false
+returns-else-place-text c =
+    elim c.else-place-text.branch [
+      | else-place-text-via-then-place-text+else-skip-eq1 w ↦
+          byte-stop _ _ w.if-place-text.true
+          (fails _ (λ q. w.if-skip-eq1.false (ran _ _ _ w.if-place-text.true (omega (arith, c.type_inv.text c.args.place)) w.skip.ensures ∙ q)))
+      | else-place-text-via-else-place-text w ↦ byte_past _ _ w.if-place-text.false
+    ]

@@ -1,11 +1,11 @@
 -- `names::lookup::find` meets its contract: glue over Walking.
-use Rattle.profile.specs.Spans.{name_at}
+use lib.ListN.{get_or}
 use Rattle.names.specs.Inner.Calls.{name_bit}
 use Rattle.names.proofs.Walking.{ahead, Walks}
 use Rattle.names.proofs.lookup.find.Given as goal
 
-abbrev pub invariant-loop-link : goal.invariant-loop-link
-invariant-loop-link l = Walks l.n l.work (name_bit (name_at l.text l.place)) l.link
+abbrev pub invariant-loop-v : goal.invariant-loop-v
+invariant-loop-v l = Walks l.n l.work (name_bit l.name) l.at
 
-abbrev pub decreases-loop-link : goal.decreases-loop-link
-decreases-loop-link l = ahead l.n l.work l.link
+abbrev pub decreases-loop-v : goal.decreases-loop-v
+decreases-loop-v l = ahead l.n l.work (get_or l.work l.at 0)

@@ -1,73 +1,44 @@
 -- `names::lookup::slot` meets its contract: glue over Walking.
-use Prim.Native.Nat.{◌+◌, ◌*◌, ◌/◌}
-use mathlib.Core.Path.{◌≡◌, refl, ap, ◌∙◌}
+use mathlib.Core.Path.{sym, ◌∙◌}
 use native.Mathlib.Omega.{arith}
 use lib.ListN.{get_or}
-use Rattle.profile.specs.Spans.{name_at}
-use Rattle.names.specs.Inner.Calls.{name_bit, way_of}
-use Rattle.names.proofs.Walking.{Turn, downs-start, downs-turn, downs-step, downs-stop, downs-end, bit-here}
+use Rattle.names.specs.Inner.Calls.{name_bit}
+use Rattle.names.proofs.Walking.{Turn, downs-start, downs-turn, downs-step, downs-stop, downs-end}
 use Rattle.names.proofs.lookup.slot.Goals as goal
-use Rattle.names.proofs.lookup.slot.Goals.{In-loop-at, After-widen}
+use Rattle.names.proofs.lookup.slot.Goals.{In-Inner}
 
-turn : (c : In-loop-at) → Turn c.args.n c.args.work.now (name_bit (name_at c.args.text.now c.args.place)) (get_or c.args.work.now c.loop-at.at 0)
-turn c = downs-turn c.loop-at.invariant _ c.requires.holds c.loop-at-test.true
+turn : (c : In-Inner) → Turn c.args.n c.args.work.now (name_bit c.args.name.now) (get_or c.args.work.now c.loop-u.at 0) c.in-Inner.u
+turn c = downs-turn c.loop-u.invariant _ c.requires.holds _ (sym c.from.ensures ∙ c.in-Inner.is)
 
--- The bit of the inner node that the link leads to.
-bit : (c : After-widen) →
-    c.widen.result ≡ get_or c.args.work.now (2 * c.args.n + get_or c.args.work.now c.loop-at.at 0 / 2) 0
-bit c = bit-here c.args.n c.args.work.now _ _ _ c.widen-u.ensures c.widen.ensures
-
-pub loop-at-init : goal.loop-at-init
-loop-at-init c = downs-start _ _ _ _ _ c.requires.holds
+pub loop-u-init : goal.loop-u-init
+loop-u-init c = downs-start _ _ _ _ _ c.requires.holds
 
 pub offset_bounds-work-at : goal.offset_bounds-work-at
-offset_bounds-work-at c = omega (arith, c.loop-at.invariant.small, c.requires.few)
+offset_bounds-work-at c = omega (arith, c.loop-u.invariant.small, c.requires.few)
 
 pub bounds-work-at : goal.bounds-work-at
-bounds-work-at c = omega (arith, c.loop-at.invariant.small, c.requires.long)
-
-pub offset_bounds-work-at-in-loop-at : goal.offset_bounds-work-at-in-loop-at
-offset_bounds-work-at-in-loop-at c = omega (arith, c.loop-at.invariant.small, c.requires.few)
-
-pub bounds-work-at-in-loop-at : goal.bounds-work-at-in-loop-at
-bounds-work-at-in-loop-at c = omega (arith, c.loop-at.invariant.small, c.requires.long)
-
-pub overflow_mul-n : goal.overflow_mul-n
-overflow_mul-n c = omega (arith, c.requires.few)
+bounds-work-at c = omega (arith, c.loop-u.invariant.small, c.requires.long)
 
 pub overflow_add-n : goal.overflow_add-n
-overflow_add-n c = omega (arith, c.widen-u.ensures, (turn (goal.at.overflow_add-n c).In-loop-at).node, c.requires.few)
+overflow_add-n c = omega (arith, (turn c).node, c.requires.few)
 
 pub offset_bounds-work-n : goal.offset_bounds-work-n
-offset_bounds-work-n c = omega (arith, c.widen-u.ensures, (turn (goal.at.offset_bounds-work-n c).In-loop-at).node, c.requires.few)
+offset_bounds-work-n c = omega (arith, (turn c).node, c.requires.few)
 
 pub bounds-work-n : goal.bounds-work-n
-bounds-work-n c =
-    omega (arith, c.widen-u.ensures, (turn (goal.at.bounds-work-n c).In-loop-at).node, c.requires.long)
+bounds-work-n c = omega (arith, (turn (goal.at.bounds-work-n c).In-Inner).node, c.requires.long)
 
-pub returns-then-d-widen : goal.returns-then-d-widen
-returns-then-d-widen c =
-    downs-stop c.loop-at.invariant _ _ refl c.loop-at-test.true
-    (omega (arith, c.if-d-widen.true, bit (goal.at.returns-then-d-widen c).After-widen))
+pub returns-then-d-work : goal.returns-then-d-work
+returns-then-d-work c = downs-stop c.loop-u.invariant _ (sym c.from.ensures ∙ c.in-Inner.is) c.if-d-work.true
 
 pub way-at-requires : goal.way-at-requires
-way-at-requires c = record {
-  name = c.requires.name;
-  few = c.requires.few;
-  long = c.requires.long;
-  node = omega (arith, c.widen-u.ensures, (turn (goal.at.way-at-requires c).In-loop-at).node);
-}
+way-at-requires c = record { few = c.requires.few; long = c.requires.long; node = (turn (goal.at.way-at-requires c).In-Inner).node }
 
-pub loop-at-smaller : goal.loop-at-smaller
-loop-at-smaller c =
-    (turn (goal.at.loop-at-smaller c).In-loop-at).less _ (c.way-at.ensures ∙ ap (way_of _ _ _) c.widen-u.ensures)
+pub loop-u-smaller : goal.loop-u-smaller
+loop-u-smaller c = (turn (goal.at.loop-u-smaller c).In-Inner).less _ c.way-at.ensures
 
-pub loop-at-preserved : goal.loop-at-preserved
-loop-at-preserved c =
-    downs-step c.loop-at.invariant _
-    c.requires.holds c.loop-at-test.true
-    (omega (arith, c.if-d-widen.false, bit (goal.at.loop-at-preserved c).After-widen))
-    _ (c.way-at.ensures ∙ ap (way_of _ _ _) c.widen-u.ensures)
+pub loop-u-preserved : goal.loop-u-preserved
+loop-u-preserved c = downs-step c.loop-u.invariant _ c.requires.holds _ (sym c.from.ensures ∙ c.in-Inner.is) c.if-d-work.false _ c.way-at.ensures
 
 pub returns : goal.returns
-returns c = downs-end c.loop-at.invariant _ _ refl c.loop-at-test.false
+returns c = downs-end c.loop-u.invariant _ (sym c.from.ensures ∙ c.in_default.is)
