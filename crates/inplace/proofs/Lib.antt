@@ -1,3 +1,4 @@
+pub mod Comments
 pub mod Letters
 pub mod Steps
 pub mod Unique

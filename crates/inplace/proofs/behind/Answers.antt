@@ -1,19 +1,13 @@
--- `inplace::behind` meets its contract: glue over Steps. Assumes nothing.
-use mathlib.Core.Path.{ap, ◌∙◌}
-use Rattle.inplace.proofs.Steps.{gap-past, gap_other, gap-short, gap-tag, gap-comment}
+-- `inplace::behind` meets its contract. Assumes nothing.
+use Rattle.std.proofs.Common.{sym}
+use Rattle.inplace.proofs.Comments.{past, none_at, one_at}
 use Rattle.inplace.proofs.behind.Goals as goal
 
-pub returns-then-text-at : goal.returns-then-text-at
-returns-then-text-at c = gap-past _ _ c.if-text-at.true
+pub returns-in_err-get : goal.returns-in_err-get
+returns-in_err-get c = rw c.from_residual.ensures (past c.args.text.now c.args.at c.in_err-get.ensures.lookup.0)
 
-pub returns-then-text-at-ne60 : goal.returns-then-text-at-ne60
-returns-then-text-at-ne60 c = gap_other _ _ c.if-text-at.false c.if-text-at-ne60.true
+pub returns-then-starts_with : goal.returns-then-starts_with
+returns-then-starts_with c = one_at c.args.text.now c.args.at _ c.in_ok-get.ensures.lookup.0.2 (sym c.if-starts_with.ensures.value) _ c.skim_at.ensures
 
-pub returns-then-text-next : goal.returns-then-text-next
-returns-then-text-next c = gap-short _ _ c.if-text-at.false c.if-text-next.true
-
-pub returns-then-text-next-ne33 : goal.returns-then-text-next-ne33
-returns-then-text-next-ne33 c = gap-tag _ _ c.if-text-at.false c.if-text-next.false c.if-text-next-ne33.true
-
-pub returns : goal.returns
-returns c = ap (λ p. p.end) c.skim_at-comment.ensures ∙ gap-comment _ _ c.if-text-at.false c.if-text-next.false c.if-text-at-ne60.false c.if-text-next-ne33.false
+pub returns-else-starts_with : goal.returns-else-starts_with
+returns-else-starts_with c = none_at c.args.text.now c.args.at _ c.in_ok-get.ensures.lookup.0.2 (sym c.if-starts_with.ensures.value)

@@ -1,13 +1,12 @@
--- `inplace::hash_of` meets its contract: glue over Steps. Assumes nothing.
-use native.Mathlib.Omega.{arith}
+-- `inplace::hash_of` meets its contract. Assumes nothing.
 use Rattle.inplace.proofs.Steps.{hashes-start, hashes-step, hashes-end}
 use Rattle.inplace.proofs.hash_of.Goals as goal
 
-pub loop-j-init : goal.loop-j-init
-loop-j-init c = hashes-start _
+pub loop-x-init : goal.loop-x-init
+loop-x-init c = hashes-start _
 
-pub loop-j-preserved : goal.loop-j-preserved
-loop-j-preserved c = hashes-step _ _ _ c.loop-j.invariant c.loop-j-test.true _ _ c.lower.ensures c.step-hash.ensures
+pub loop-x-preserved : goal.loop-x-preserved
+loop-x-preserved c = hashes-step _ _ _ c.loop-x.invariant c.loop-x-test.true _ _ c.lower.ensures c.step-hash.ensures
 
 pub returns : goal.returns
-returns c = hashes-end _ _ _ c.loop-j.invariant (omega (arith, c.loop-j-test.false))
+returns c = hashes-end _ _ _ c.loop-x.invariant c.loop-x-test.false

@@ -1,11 +1,6 @@
--- `inplace::hash_of` meets its contract: glue over Steps. Assumes nothing.
-use Prim.Native.Nat.{◌-◌}
-use lib.ListN.{length}
+-- `inplace::hash_of` meets its contract. Assumes nothing.
 use Rattle.inplace.proofs.Steps.{Hashes}
 use Rattle.inplace.proofs.hash_of.Given as goal
 
-abbrev pub invariant-loop-j : goal.invariant-loop-j
-invariant-loop-j l = Hashes l.word l.hash l.j
-
-abbrev pub decreases-loop-j : goal.decreases-loop-j
-decreases-loop-j l = length l.word - l.j
+abbrev pub invariant-loop-x : goal.invariant-loop-x
+invariant-loop-x l = Hashes l.word l.hash l.x-index

@@ -1,20 +1,19 @@
--- `inplace::is_word` meets its contract: glue over Steps. Assumes nothing.
-use native.Mathlib.Omega.{arith}
-use mathlib.Core.Path.{sym, ◌∙◌}
+-- `inplace::is_word` meets its contract. Assumes nothing.
+use Rattle.std.proofs.Common.{sym, ◌∙◌}
 use Rattle.inplace.proofs.Steps.{spelling_start, spelling_short, spelling_differ, spelling_step, spelling_end}
 use Rattle.inplace.proofs.is_word.Goals as goal
 
-pub loop-j-init : goal.loop-j-init
-loop-j-init c = spelling_start _ _ _
+pub loop-x-init : goal.loop-x-init
+loop-x-init c = spelling_start _ _ _
 
-pub returns-then-text-p : goal.returns-then-text-p
-returns-then-text-p c = spelling_short _ _ _ _ _ _ c.loop-j.invariant c.letter_from-p.ensures c.loop-j-test.true c.if-text-p.true
+pub returns-in_default : goal.returns-in_default
+returns-in_default c = spelling_differ _ _ _ _ _ c.loop-x.invariant c.loop-x-test.true _ c.in-Some.ensures (λ e. c.if-letter-lower.false (e ∙ sym c.lower.ensures))
 
-pub returns-then-fold-lower : goal.returns-then-fold-lower
-returns-then-fold-lower c = spelling_differ _ _ _ _ _ _ c.loop-j.invariant c.letter_from-p.ensures c.loop-j-test.true c.if-text-p.false (λ e. c.if-fold-lower.true (c.fold.ensures ∙ e ∙ sym c.lower.ensures))
+pub returns-in_default-2 : goal.returns-in_default-2
+returns-in_default-2 c = spelling_short _ _ _ _ _ c.loop-x.invariant c.loop-x-test.true c.in_default.ensures
 
-pub loop-j-preserved : goal.loop-j-preserved
-loop-j-preserved c = spelling_step _ _ _ _ _ _ c.loop-j.invariant c.letter_from-p.ensures c.loop-j-test.true c.if-text-p.false (sym c.fold.ensures ∙ c.if-fold-lower.false ∙ c.lower.ensures)
+pub loop-x-preserved : goal.loop-x-preserved
+loop-x-preserved c = spelling_step _ _ _ _ _ c.loop-x.invariant c.loop-x-test.true _ c.in-Some.ensures (c.if-letter-lower.true ∙ c.lower.ensures)
 
 pub returns : goal.returns
-returns c = spelling_end _ _ _ _ _ _ c.loop-j.invariant c.letter_from.ensures (omega (arith, c.loop-j-test.false))
+returns c = spelling_end _ _ _ _ _ c.loop-x.invariant c.loop-x-test.false _ c.letter_from-2.ensures _ c.is_none.ensures

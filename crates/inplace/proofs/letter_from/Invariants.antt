@@ -1,6 +1,5 @@
--- `inplace::letter_from` meets its contract: glue over Steps. Assumes nothing.
-use Prim.Native.Nat.{◌-◌}
-use lib.ListN.{length}
+-- `inplace::letter_from` meets its contract. Assumes nothing.
+use Rattle.std.proofs.Common.{◌-◌, length}
 use Rattle.inplace.proofs.Steps.{Seeking}
 use Rattle.inplace.proofs.letter_from.Given as goal
 
