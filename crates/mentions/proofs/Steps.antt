@@ -5,49 +5,57 @@
 --   passed-end, passed_reference                     over the `>` of a tag, and over a reference
 --   next-none, next-some                             what it has come to
 -- Letters: T text, i a place, x a byte, g in a tag, b the data makes a node, v the node. Assumes nothing.
-use Prim.Native.Nat.{ℕ, zero, suc, zero-le, pred, ◌+◌, ◌-◌, ◌≤◌, ◌<◌}
+use Prim.Native.Nat.{ℕ, zero, suc, zero-le, pred, ◌+◌, ◌-◌, ◌≤◌, ◌<◌, max}
 use mathlib.Core.Path.{◌≡◌, refl, sym, ap, ap₂, subst, ◌∙◌}
-use mathlib.Core.Logic.{⊎_elim}
+use mathlib.Core.Logic.{◌⊎◌, ⊎_elim}
 use mathlib.Core.List.{List, [], ◌∷◌}
-use mathlib.Core.Bool.{Bool, true, false, not, cond, ◌||◌, or-true, or-false, false≢true}
+use mathlib.Core.Bool.{Bool, true, false, not, cond, ◌||◌, or-true, false≢true}
 use native.Mathlib.Omega.{arith}
+use mir.Val.{bool_byte}
 use lib.Dec.{eqb, ltb}
 use lib.ListN.{length, get_or, drop, drop_of_length-le, length-drop}
 use lib.Seq.{drop-cons, drop-drop, get_or-drop}
 use borrow.Author.Tests.{eq-eqb, ne_eqb, eqb-true, lt-ltb, le-ltb}
+use Rattle.std.specs.Prelude.{None, Some}
 use Rattle.seq.proofs.Laws.Bools.{bool_cases}
 use Rattle.seq.proofs.Laws.Numbers.{less_or}
 use Rattle.profile.specs.Bytes.{'!', '&', '<', '>', semicolon, white, starts_with}
 use Rattle.profile.specs.Spans.{span, other}
-use Rattle.profile.proofs.Laws.Spans.{span_le, span-stops}
+use Rattle.profile.proofs.Laws.Spans.{span_le, span-stops, span_none}
+use Rattle.octets.proofs.Running.{Run}
 use Rattle.profile.specs.Tree.{place_in}
 use Rattle.profile.specs.Pieces.{COMMENT, CLOSE}
 use Rattle.markup.specs.declared.Piece.{Piece}
 use Rattle.skim.specs.Skim.{skim_comment, skim_tag, skim_of, skim_at}
-use Rattle.words.specs.Runs.{word_byte}
+use Rattle.words.specs.Runs.{word_byte, folded}
 use Rattle.words.specs.Scan.{Ahead, ahead, behind, past_markup, skips_markup, past_other, skips_other, past, skips, starts, seek, seek_in}
 use Rattle.words.specs.Scan as words
-use Rattle.mentions.specs.Inner.{quiet, third, known, leads, Reached, MarkupPre, PassPre, Passed, seen_at}
+use Rattle.inplace.proofs.Letters.{folded-some}
+use Rattle.mentions.specs.Inner.{quiet, third, known, leads, Reached, MarkupPre, PassPre, Passed}
 use Rattle.mentions.specs.declared.Pass.{Pass}
-use Rattle.mentions.specs.Next.{as_seen, next_of}
+use Rattle.mentions.specs.Next.{as_pass, next_of}
 
 -- ---- quiet bytes
 module _ (y x : ℕ) where
-  pub stop-letter : word_byte x ≡ true → quiet y x ≡ false
+  stop-letter : word_byte x ≡ true → quiet y x ≡ false
   unfolding quiet
   stop-letter e = rw e
 
-  pub stop-less : x ≡ '<' → quiet y x ≡ false
+  stop-less : x ≡ '<' → quiet y x ≡ false
   unfolding quiet
   stop-less e = ap not (ap (λ z. z || eqb x y) (ap (λ z. word_byte x || z) (eq-eqb x '<' e) ∙ or-true (word_byte x)))
 
-  pub stop-third : x ≡ y → quiet y x ≡ false
+  stop-third : x ≡ y → quiet y x ≡ false
   unfolding quiet
   stop-third e = ap not (ap (λ z. (word_byte x || eqb x '<') || z) (eq-eqb x y e) ∙ or-true (word_byte x || eqb x '<'))
 
   pub stop-none : word_byte x ≡ false → (x ≡ '<' → ⊥) → (x ≡ y → ⊥) → quiet y x ≡ true
   unfolding quiet
   stop-none e p q = rw (e, ne_eqb x '<' p, ne_eqb x y q)
+
+  -- As the code asks: z is what `fold` makes of the byte.
+  pub stop-any : (z : ℕ) → z ≡ folded x → (z ≡ 0 → ⊥) ⊎ (((z ≡ 0) × (x ≡ '<')) ⊎ ((z ≡ 0) × (x ≡ '<' → ⊥) × (x ≡ y))) → quiet y x ≡ false
+  stop-any z e h = ⊎_elim (λ n. stop-letter (folded-some x (λ q. n (e ∙ q)))) (λ k. ⊎_elim (λ p. stop-less p.1) (λ p. stop-third p.2) k) h
 
   -- And back.
   record Quiet : Type 0 where
@@ -129,6 +137,11 @@ module _ (place : List ℕ → ℕ) where
       ap (λ z. seek place 0 (ahead false false (b || ltb (cond (white x) (suc (span white t)) 0) (cond z (suc (span (quiet '&') t)) 0)) v) (drop (cond z (suc (span (quiet '&') t)) 0) (x ∷ t))) (sym e))
       (bool_cases (quiet '&' x))
 
+-- ---- quiet_end
+-- The loop is over: o is past the end, or i is the end.
+pub run_over : (f : ℕ → Bool) (T : List ℕ) (o i : ℕ) → Run f T o i → length T ≤ i → (o ≤ length T → i ≤ length T) → (z : ℕ) → z ≡ max o (length T) → z ≡ o + span f (drop o T)
+run_over f T o i r l e z q = grind (arith, r.same, span_none f T i l, span_none f T o)
+
 -- ---- reach
 module _ (T : List ℕ) (i : ℕ) (v : ℕ) where
   -- Behind a span.
@@ -159,44 +172,34 @@ module _ (T : List ℕ) (i : ℕ) (v : ℕ) where
         stops = stop-at (quiet '&') j e;
       }
 
-  pub reached-solid : (j : ℕ) → j ≡ i + span (quiet '&') (drop i T) → Reached T (record { at = i; tag = false; solid = true; node = v }) (record { at = j; tag = false; solid = true; node = v })
-  reached-solid j e = reached_data true true j e refl
-
-  pub reached-blank : (j k : ℕ) → j ≡ i + span (quiet '&') (drop i T) → k ≡ i + span white (drop i T) →
-      Reached T (record { at = i; tag = false; solid = false; node = v }) (record { at = j; tag = false; solid = ltb k j; node = v })
-  reached-blank j k e f = reached_data false (ltb k j) j e (both (span white (drop i T)) (span (quiet '&') (drop i T)) ∙ ap₂ ltb (sym f) (sym e))
-    where
-      both : (a b : ℕ) → ltb a b ≡ ltb (i + a) (i + b)
-      both a b = ⊎_elim (λ l. lt-ltb a b l ∙ sym (lt-ltb (i + a) (i + b) (omega arith))) (λ l. le-ltb a b l ∙ sym (le-ltb (i + a) (i + b) (omega arith))) (less_or a b)
-
 -- The same of any pass.
 module _ (T : List ℕ) (s : Pass) where
-  pub reach-tag : s.tag ≡ true → (j : ℕ) → j ≡ s.at + span (quiet '>') (drop s.at T) → Reached T s (record { at = j; tag = true; solid = s.solid; node = s.node })
+  pub reach-tag : s.tag ≡ true → (j : ℕ) → j ≡ s.at + span (quiet '>') (drop s.at T) → Reached T s (record { at = j; tag = s.tag; solid = s.solid; node = s.node })
   reach-tag e j q =
-      subst (λ g. Reached T (record { at = s.at; tag = g; solid = s.solid; node = s.node }) (record { at = j; tag = true; solid = s.solid; node = s.node })) (sym e)
+      subst (λ g. Reached T (record { at = s.at; tag = g; solid = s.solid; node = s.node }) (record { at = j; tag = g; solid = s.solid; node = s.node })) (sym e)
       (reached-tag T s.at s.node s.solid j q)
 
   module _ (e : s.tag ≡ false) (j : ℕ) (q : j ≡ s.at + span (quiet '&') (drop s.at T)) where
-    pub reach-solid : s.solid ≡ true → Reached T s (record { at = j; tag = false; solid = true; node = s.node })
-    reach-solid f =
-        subst (λ g. Reached T (record { at = s.at; tag = g; solid = s.solid; node = s.node }) (record { at = j; tag = false; solid = true; node = s.node })) (sym e)
-        (subst (λ b. Reached T (record { at = s.at; tag = false; solid = b; node = s.node }) (record { at = j; tag = false; solid = true; node = s.node })) (sym f)
-        (reached-solid T s.at s.node j q))
+    reach_data : (c : Bool) → solid_over (place_in T) s.solid (drop s.at T) ≡ c → Reached T s (record { at = j; tag = s.tag; solid = c; node = s.node })
+    reach_data c f =
+        subst (λ g. Reached T (record { at = s.at; tag = g; solid = s.solid; node = s.node }) (record { at = j; tag = g; solid = c; node = s.node })) (sym e)
+        (reached_data T s.at s.node s.solid c j q f)
 
-    pub reach-blank : s.solid ≡ false → (k : ℕ) → k ≡ s.at + span white (drop s.at T) → Reached T s (record { at = j; tag = false; solid = ltb k j; node = s.node })
-    reach-blank f k r =
-        subst (λ g. Reached T (record { at = s.at; tag = g; solid = s.solid; node = s.node }) (record { at = j; tag = false; solid = ltb k j; node = s.node })) (sym e)
-        (subst (λ b. Reached T (record { at = s.at; tag = false; solid = b; node = s.node }) (record { at = j; tag = false; solid = ltb k j; node = s.node })) (sym f)
-        (reached-blank T s.at s.node j k q r))
+    pub reach-solid : s.solid ≡ true → Reached T s (record { at = j; tag = s.tag; solid = s.solid; node = s.node })
+    reach-solid f = reach_data s.solid (ap (λ b. solid_over (place_in T) b (drop s.at T)) f ∙ sym f)
 
--- ---- starting
-pub starting-tag : (s : Pass) → s.tag ≡ true → record { found = true; place = s.at; tag = s.tag; solid = s.solid; node = s.node } ≡ seen_at s
-starting-tag s e = ap (λ b. record { found = true; place = s.at; tag = s.tag; solid = b; node = s.node }) (sym (ap (λ g. s.solid || not g) e ∙ or-false s.solid))
-
-pub starting_data : (s : Pass) → s.tag ≡ false → record { found = true; place = s.at; tag = s.tag; solid = true; node = s.node } ≡ seen_at s
-starting_data s e = ap (λ b. record { found = true; place = s.at; tag = s.tag; solid = b; node = s.node }) (sym (ap (λ g. s.solid || not g) e ∙ or-true s.solid))
+    pub reach-blank : s.solid ≡ false → (k : ℕ) → k ≡ s.at + span white (drop s.at T) → Reached T s (record { at = j; tag = s.tag; solid = ltb k j; node = s.node })
+    reach-blank f k r = reach_data (ltb k j) (ap (λ b. solid_over (place_in T) b (drop s.at T)) f ∙ both (span white (drop s.at T)) (span (quiet '&') (drop s.at T)) ∙ ap₂ ltb (sym r) (sym q))
+      where
+        both : (a b : ℕ) → ltb a b ≡ ltb (s.at + a) (s.at + b)
+        both a b = ⊎_elim (λ l. lt-ltb a b l ∙ sym (lt-ltb (s.at + a) (s.at + b) (omega arith))) (λ l. le-ltb a b l ∙ sym (le-ltb (s.at + a) (s.at + b) (omega arith))) (less_or a b)
 
 -- ---- over_markup
+-- The number of the node after the data, as the code counts it.
+pub counted : (b : Bool) (v z : ℕ) → z ≡ bool_byte b → v + z ≡ behind b v
+counted true v z e = omega (arith, e)
+counted false v z e = omega (arith, e)
+
 -- Markup has a byte at least.
 skim_some : (t : List ℕ) → (skim_of ('<' ∷ t)).size ≡ suc (pred (skim_of ('<' ∷ t)).size)
 unfolding skim_of
@@ -319,14 +322,15 @@ module _ (T : List ℕ) (s : Pass) (pre : PassPre T s) (n : get_or T s.at 0 ≡ 
   reference_fits j q = omega (arith, q, pre.within, span_le (other semicolon) (drop (s.at + 1) T), length-drop (s.at + 1) T)
 
   pub passed_reference : s.tag ≡ false → (j : ℕ) → j ≡ s.at + 1 + span (other semicolon) (drop (s.at + 1) T) →
-      Passed T s (record { at = j + 1; tag = false; solid = true; node = s.node })
+      Passed T s (record { at = j + 1; tag = s.tag; solid = true; node = s.node })
   unfolding skips past skips_other past_other word_byte white
   passed_reference e j q =
       record {
         same = ap₂ (λ g t. seek (place_in T) 0 (ahead g false s.solid s.node) t) e (here '&' (ap third e)) ∙
             seek-on (place_in T) (ahead false false s.solid s.node) '&' (drop (suc s.at) T) refl ∙
             seek-skip (place_in T) (suc (span (other semicolon) (drop (suc s.at) T))) (ahead false false (s.solid || true) s.node) (drop (suc s.at) T) ∙
-            ap₂ (λ z t. seek (place_in T) 0 (ahead false false z s.node) t) (or-true s.solid) (drop-drop (suc (span (other semicolon) (drop (suc s.at) T))) (suc s.at) T ∙ ap (λ (z : ℕ). drop z T) far);
+            ap₂ (λ z t. seek (place_in T) 0 (ahead false false z s.node) t) (or-true s.solid) (drop-drop (suc (span (other semicolon) (drop (suc s.at) T))) (suc s.at) T ∙ ap (λ (z : ℕ). drop z T) far) ∙
+            ap (λ g. seek (place_in T) 0 (ahead g false true s.node) (drop (j + 1) T)) (sym e);
         on = omega arith;
         few = omega (arith, pre.few);
       }
@@ -353,17 +357,17 @@ module _ (T : List ℕ) (i : ℕ) (g b : Bool) (s r : Pass) (go : Going T i g b 
   few-there : r.node ≤ r.at
   few-there = omega (arith, re.on, re.node, go.few)
 
-  pub next-none : length T ≤ r.at → as_seen words.unseen ≡ next_of T i g b
+  pub next-none : length T ≤ r.at → None ≡ next_of T i g b
   unfolding next_of seek
-  next-none l = ap as_seen (sym (leads-there ∙ ap (seek (place_in T) 0 (known r)) (drop_of_length-le T l)))
+  next-none l = ap as_pass (sym (leads-there ∙ ap (seek (place_in T) 0 (known r)) (drop_of_length-le T l)))
 
   module _ (l : r.at < length T) where
-    pub next-some : word_byte (get_or T r.at 0) ≡ true → seen_at r ≡ next_of T i g b
+    pub next-some : word_byte (get_or T r.at 0) ≡ true → (c : Bool) → c ≡ (r.solid || not r.tag) → Some (record { at = r.at; tag = r.tag; solid = c; node = r.node }) ≡ next_of T i g b
     unfolding next_of
-    next-some e = ap as_seen (sym (leads-there ∙ ap (seek (place_in T) 0 (known r)) (drop-cons T r.at 0 l) ∙ starting ∙ ap (λ (z : ℕ). words.seen z (known r)) there))
+    next-some e c q = ap (λ c. Some (record { at = r.at; tag = r.tag; solid = c; node = r.node })) q ∙ ap as_pass (sym (leads-there ∙ ap (seek (place_in T) 0 (known r)) (drop-cons T r.at 0 l) ∙ begins ∙ ap (λ (z : ℕ). words.seen z (known r)) there))
       where
-        starting : seek (place_in T) 0 (known r) (get_or T r.at 0 ∷ drop (suc r.at) T) ≡ words.seen (place_in T (get_or T r.at 0 ∷ drop (suc r.at) T)) (known r)
-        starting = unfold seek starts in rw e
+        begins : seek (place_in T) 0 (known r) (get_or T r.at 0 ∷ drop (suc r.at) T) ≡ words.seen (place_in T (get_or T r.at 0 ∷ drop (suc r.at) T)) (known r)
+        begins = unfold seek starts in rw e
 
         there : place_in T (get_or T r.at 0 ∷ drop (suc r.at) T) ≡ r.at
         there = omega (arith, length-drop (suc r.at) T)

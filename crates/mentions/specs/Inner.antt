@@ -4,15 +4,13 @@
 --   Reached T s r   == the pass s, having reached a byte that matters, is r
 --   MarkupPre, PassPre   == the pass stands at a `<`, and at any byte that matters but a letter or digit
 --   Passed T s r    == the pass s, having passed over that, is r
---   seen_at s        == a word starts where the pass s is
 -- Letters: T text, s r passes. Assumes nothing.
-use Rattle.std.specs.Prelude.{ℕ, ◌≤◌, ◌<◌, ◌≡◌, List, Bool, true, false, not, cond, ◌||◌, eqb, length, get_or, drop}
+use Rattle.std.specs.Prelude.{ℕ, ◌≤◌, ◌<◌, ◌≡◌, List, Bool, false, not, cond, ◌||◌, eqb, length, get_or, drop}
 use Rattle.profile.specs.Bytes.{'&', '<', '>'}
 use Rattle.profile.specs.Tree.{place_in}
 use Rattle.words.specs.Runs.{word_byte}
 use Rattle.words.specs.Scan.{Ahead, ahead, seek}
 use Rattle.words.specs.Scan as words
-use Rattle.mentions.specs.declared.Seen.{Seen}
 use Rattle.mentions.specs.declared.Pass.{Pass}
 
 unfoldable pub quiet : ℕ → ℕ → Bool
@@ -49,6 +47,3 @@ pub record Passed (T : List ℕ) (s r : Pass) : Type 0 where
   pub same : leads T s ≡ leads T r
   pub on : s.at < r.at
   pub few : r.node ≤ r.at
-
-abbrev pub seen_at : Pass → Seen
-seen_at s = record { found = true; place = s.at; tag = s.tag; solid = s.solid || not s.tag; node = s.node }

@@ -1,23 +1,37 @@
--- `mentions::next` meets its contract: glue over Steps. Assumes nothing.
-use mathlib.Core.Path.{sym, ◌∙◌}
+-- `mentions::next` meets its contract. Assumes nothing.
+use mathlib.Core.Bool.{not, ◌||◌}
+use Rattle.std.proofs.Common.{sym, ap, ◌∙◌, arith}
+use Rattle.words.specs.Runs.{folded}
 use Rattle.inplace.proofs.Letters.{folded-some, folded-none}
 use Rattle.mentions.proofs.Steps.{going_start, next-none, next-some, pass-pre, next-on, next-less}
 use Rattle.mentions.proofs.next.Goals as goal
 
-pub loop-r-init : goal.loop-r-init
-loop-r-init c = going_start _ _ _ _
+pub loop-x-init : goal.loop-x-init
+loop-x-init c = going_start _ _ _ _
 
-pub returns-then-text-i : goal.returns-then-text-i
-returns-then-text-i c = next-none _ _ _ _ _ _ c.loop-r.invariant c.reach-r.ensures c.if-text-i.true
+pub returns-in_err-x : goal.returns-in_err-x
+returns-in_err-x c = c.from_residual.ensures ∙ next-none _ _ _ _ _ _ c.loop-x.invariant c.reach-r.ensures c.in_err-x.ensures.lookup.3
 
-pub returns-then-fold-ne0 : goal.returns-then-fold-ne0
-returns-then-fold-ne0 c = c.starting.ensures ∙ next-some _ _ _ _ _ _ c.loop-r.invariant c.reach-r.ensures c.if-text-i.false (folded-some _ (λ z. c.if-fold-ne0.true (c.fold.ensures ∙ z)))
+pub returns-then-r : goal.returns-then-r
+returns-then-r c =
+    let here = c.in_ok-x.ensures.lookup in
+    let letter = folded-some _ (λ z. c.if-fold-ne0.true (c.fold.ensures ∙ ap folded (here.4 (omega arith) 0) ∙ z)) in
+    let solid = c.if-r.true in
+    next-some _ _ _ _ _ _ c.loop-x.invariant c.reach-r.ensures here.3.0 letter _ (solid ∙ sym (ap (λ b. b || not c.reach-r.result.tag) solid))
+
+pub returns-else-r : goal.returns-else-r
+returns-else-r c =
+    let here = c.in_ok-x.ensures.lookup in
+    let letter = folded-some _ (λ z. c.if-fold-ne0.true (c.fold.ensures ∙ ap folded (here.4 (omega arith) 0) ∙ z)) in
+    next-some _ _ _ _ _ _ c.loop-x.invariant c.reach-r.ensures here.3.0 letter _ (sym (ap (λ b. b || not c.reach-r.result.tag) c.if-r.false))
 
 pub over-s-requires : goal.over-s-requires
-over-s-requires c = pass-pre _ _ _ _ _ _ c.loop-r.invariant c.reach-r.ensures c.if-text-i.false (folded-none _ (sym c.fold.ensures ∙ c.if-fold-ne0.false))
+over-s-requires c =
+    let here = c.in_ok-x.ensures.lookup in
+    pass-pre _ _ _ _ _ _ c.loop-x.invariant c.reach-r.ensures here.3.0 (folded-none _ (ap folded (sym (here.4 (omega arith) 0)) ∙ sym c.fold.ensures ∙ c.if-fold-ne0.false))
 
-pub loop-r-smaller : goal.loop-r-smaller
-loop-r-smaller c = next-less _ _ _ _ _ _ c.loop-r.invariant c.reach-r.ensures c.if-text-i.false _ c.over-s.ensures
+pub loop-x-smaller : goal.loop-x-smaller
+loop-x-smaller c = next-less _ _ _ _ _ _ c.loop-x.invariant c.reach-r.ensures c.in_ok-x.ensures.lookup.3.0 _ c.over-s.ensures
 
-pub loop-r-preserved : goal.loop-r-preserved
-loop-r-preserved c = next-on _ _ _ _ _ _ c.loop-r.invariant c.reach-r.ensures c.if-text-i.false _ c.over-s.ensures
+pub loop-x-preserved : goal.loop-x-preserved
+loop-x-preserved c = next-on _ _ _ _ _ _ c.loop-x.invariant c.reach-r.ensures c.in_ok-x.ensures.lookup.3.0 _ c.over-s.ensures
