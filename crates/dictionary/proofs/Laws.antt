@@ -2,11 +2,11 @@
 --   find_unique, lookup_unique, enter_unique    no second outcome fits `find`, `lookup`, `enter`
 --   stop-slot, stop_le        a search from the word's own hash on is that of `probing`, and comes to a slot or to their number
 --   insert-enters, -fails     so, with the word's own hash, `enter` is the insertion of `probing`
---   enter-last, enter-full, enter-held, enter-free   the exits of `enter`;  from-hash, from-none, same-there: of the loops
+--   enter-last, enter-full, enter-held, enter-free   the exits of `enter`;  started, no_slots, stopped, missed: the start and the exits of `probe`;  stop-or: the reply of `find`
 -- Letters as in specs/Slots. Assumes nothing.
-use Prim.Native.Nat.{ℕ, suc, ◌+◌, ◌-◌, ◌≤◌, ◌<◌, ◌%◌}
+use Prim.Native.Nat.{ℕ, suc, ◌+◌, ◌≤◌, ◌<◌, ◌%◌}
 use native.Mathlib.Nat.{mod-lt}
-use mathlib.Core.Path.{◌≡◌, refl, sym, ap, ap₂, ◌∙◌}
+use mathlib.Core.Path.{◌≡◌, refl, sym, ap, ap₂, subst, ◌∙◌}
 use mathlib.Core.Logic.{⊎_elim}
 use mathlib.Core.List.{List}
 use mathlib.Core.Bool.{Bool, true, false, cond, ◌&&◌}
@@ -15,18 +15,19 @@ use native.Mathlib.Omega.{arith}
 use lib.Dec.{eqb, ltb}
 use lib.ListN.{length, get_or, set, length-set}
 use borrow.Author.Tests.{lt-ltb, le-ltb, eq-eqb, ne_eqb, eqb-true, eqb-false, ltb-true, ltb-false}
-use Rattle.seq.specs.Lists.{same_list}
 use Rattle.seq.proofs.Laws.Bools.{bool_cases, and_both, and_right, and_false-left, and_false-right}
 use Rattle.fnv.specs.Fnv.{hash_of}
 use Rattle.probing.specs.Table.{slot_of, insert}
 use Rattle.probing.proofs.Laws.Table.{insert-held, insert-free, insert-full}
-use Rattle.probing.specs.Around.{around}
 use Rattle.probing.specs.Table.{passes}
 use Rattle.probing.proofs.Laws.Around.{around_le}
-use Rattle.probing.proofs.Walk.{walk-slot, walk_none}
+use Rattle.probing.proofs.Walk.{Walk, walk_start, walk-slot, walk-stop, walk_end, walk_none}
 use Rattle.words.specs.Runs.{Word}
 use Rattle.words.specs.Reading.{word_at}
 use Rattle.dictionary.specs.Slots.{stop_from, stop_of, places, enters, entered, Entered}
+use Rattle.dictionary.specs.Inner.{Stops}
+use Rattle.std.specs.Prelude.{Option, None, Some}
+use Rattle.std.specs.Option.{unwrap_or}
 
 -- ---- searches
 module _ (T : List ℕ) (q : Word) (w : List ℕ) where
@@ -53,17 +54,18 @@ module _ (T : List ℕ) (k h : ℕ) (w : List ℕ) where
   pub enter-last : places ≤ k → Entered T k h w false w
   enter-last l = none-enters (unfold enters in and_false-left _ _ (le-ltb k places l))
 
-  module _ (l : k < places) (s : ℕ) (at : s ≡ stop_from T (word_at T k) h w) where
-    pub slot-within : s ≤ length w
-    slot-within = omega (arith, at, stop_le T (word_at T k) w h)
+  module _ (l : k < places) where
+    pub enter-full : stop_from T (word_at T k) h w ≡ length w → Entered T k h w false w
+    enter-full e = none-enters (unfold enters in and_false-right (ltb k places) _ (le-ltb (stop_from T (word_at T k) h w) (length w) (omega (arith, e))))
 
-    pub enter-full : s ≡ length w → Entered T k h w false w
-    enter-full e = none-enters (unfold enters in and_false-right (ltb k places) _ (le-ltb (stop_from T (word_at T k) h w) (length w) (omega (arith, at))))
+    -- The search stops at the slot s.
+    module _ (s : ℕ) (stops : (s < length w) × (s ≡ stop_from T (word_at T k) h w)) where
+      at : s ≡ stop_from T (word_at T k) h w
+      at = stops.1
 
-    module _ (n : s ≡ length w → ⊥) where
       yes : enters T k h w ≡ true
       unfolding enters
-      yes = and_both _ _ (lt-ltb k places l) (lt-ltb (stop_from T (word_at T k) h w) (length w) (omega (arith, at, slot-within, n)))
+      yes = and_both _ _ (lt-ltb k places l) (lt-ltb (stop_from T (word_at T k) h w) (length w) (omega (arith, at, stops.0)))
 
       pub enter-held : (get_or w s 0 ≡ 0 → ⊥) → Entered T k h w true w
       enter-held f = stays true (sym yes) (and_false-right (enters T k h w) _ (ap (λ (z : ℕ). eqb (get_or w z 0) 0) (sym at) ∙ ne_eqb (get_or w s 0) 0 f))
@@ -120,20 +122,31 @@ entered-long T k h w = by (enters T k h w && eqb (get_or w (stop_from T (word_at
     by true = length-set w (stop_from T (word_at T k) h w) (suc k)
     by false = refl
 
--- ---- the loops
--- The search of a loop that starts at the slot that the hash h gives.
+-- ---- the start and the exits of `probe`, which starts at the slot that the hash h gives
 module _ (T : List ℕ) (q : Word) (h : ℕ) (w : List ℕ) where
-  pub from-hash : (k r : ℕ) → k ≡ h → r ≡ around (length w) (k % length w) (λ i. passes (word_at T) q (get_or w i 0)) → r ≡ stop_from T q h w
+  pub no_slots : length w ≤ 0 → Stops T q h w None
   unfolding stop_from
-  from-hash k r e p = p ∙ ap (λ (z : ℕ). around (length w) (z % length w) (λ i. passes (word_at T) q (get_or w i 0))) e
+  no_slots l = sym (walk_none (word_at T) w q (h % length w) none) ∙ sym none
+    where
+      none : length w ≡ 0
+      none = omega arith
 
-  pub from-none : length w ≡ 0 → 0 ≡ stop_from T q h w
-  unfolding stop_from
-  from-none e = walk_none (word_at T) w q (h % length w) e
+  pub started : (i : ℕ) → (0 < length w) × (i ≡ h % length w) → Walk (word_at T) w q (h % length w) i 0
+  started i e = subst (λ (z : ℕ). Walk (word_at T) w q (h % length w) z 0) (sym e.1) (walk_start (word_at T) w q (h % length w) (mod-lt h e.0))
 
--- A slot that is taken, and what was said of its word.
-pub same-there : (T : List ℕ) (q : Word) (x y : ℕ) (r b : Bool) → y ≡ x - 1 → r ≡ same_list q (word_at T y) → r ≡ b → same_list q (word_at T (x - 1)) ≡ b
-same-there T q x y r b e p z = ap (λ (i : ℕ). same_list q (word_at T i)) (sym e) ∙ sym p ∙ z
+  module _ (i o : ℕ) (r : Walk (word_at T) w q (h % length w) i o) where
+    pub stopped : o < length w → passes (word_at T) q (get_or w i 0) ≡ false → Stops T q h w (Some i)
+    unfolding stop_from
+    stopped l e = (r.below, walk-stop (word_at T) w q (h % length w) i o r l e)
+
+    pub missed : length w ≤ o → Stops T q h w None
+    unfolding stop_from
+    missed l = sym (walk_end (word_at T) w q (h % length w) i o r l)
+
+-- The slot, or the number of slots where there is none.
+pub stop-or : (T : List ℕ) (q : Word) (h : ℕ) (w : List ℕ) (o : Option ℕ) → Stops T q h w o → unwrap_or o (length w) ≡ stop_from T q h w
+stop-or T q h w None e = sym e
+stop-or T q h w (Some s) e = e.1
 
 -- ---- no second outcome
 pub find_unique : (T : List ℕ) (k h : ℕ) (w : List ℕ) (r r' : ℕ) → r ≡ stop_from T (word_at T k) h w → r' ≡ stop_from T (word_at T k) h w → r ≡ r'
