@@ -7,8 +7,8 @@ use mathlib.Core.Path.{◌≡◌, refl}
 use mathlib.Core.List.{List, [], ◌∷◌}
 use mathlib.Core.Bool.{true}
 use Rattle.seq.specs.Lists.{every_of, same_list}
-use Rattle.seq.specs.Memory.{over}
-use Rattle.text.specs.Text.{bytes, ended, line_length, field_length, digit, numeral, value_from, number_or, digits_in, decimal}
+use Rattle.std.specs.Prelude.{Option, Some, None}
+use Rattle.text.specs.Text.{bytes, ended, line_length, field_length, digit, numeral, value_from, number_of, digits_in, decimal}
 use Rattle.text.specs.Buffers.{front}
 
 -- What a definition gives, and what it must give.
@@ -22,8 +22,16 @@ line s n = record { given = line_length (bytes s) ∷ []; right = n ∷ [] }
 abbrev field : String → ℕ → Case
 field l n = record { given = field_length (bytes l) ∷ []; right = n ∷ [] }
 
+-- The number of a field, or nothing.
+told : Option ℕ → List ℕ
+told None = []
+told (Some n) = n ∷ []
+
 abbrev number : String → ℕ → Case
-number f n = record { given = number_or (bytes f) ∷ []; right = n ∷ [] }
+number f n = record { given = told (number_of (bytes f)); right = n ∷ [] }
+
+abbrev no-number : String → Case
+no-number f = record { given = told (number_of (bytes f)); right = [] }
 
 abbrev digits : ℕ → String → Case
 digits n f = record { given = decimal n; right = bytes f }
@@ -42,17 +50,17 @@ table =
     ∷ field "ab,c" 2
     ∷ field ",a" 0
     ∷ field "a;b\r\nc" 6
-    -- 100,000 where a field is no number
+    -- no number where a field is none
     ∷ number "0" 0
     ∷ number "90210" 90210
     ∷ number "99999" 99999
-    ∷ number "" 100000
-    ∷ number "00" 100000
-    ∷ number "01" 100000
-    ∷ number "200000" 100000
-    ∷ number "1/" 100000
-    ∷ number "1:" 100000
-    ∷ number " 1" 100000
+    ∷ no-number ""
+    ∷ no-number "00"
+    ∷ no-number "01"
+    ∷ no-number "200000"
+    ∷ no-number "1/"
+    ∷ no-number "1:"
+    ∷ no-number " 1"
     -- no leading zero but 0 itself, and all ten digits
     ∷ digits 0 "0"
     ∷ digits 10 "10"
@@ -66,5 +74,5 @@ table =
     ∷ []
 
 pub cases : every_of (λ c. same_list c.given c.right) table ≡ true
-unfolding every_of same_list over bytes ended line_length field_length digit numeral value_from number_or digits_in decimal front table
+unfolding every_of same_list bytes ended line_length field_length digit numeral value_from number_of digits_in decimal front told table
 cases = refl

@@ -12,7 +12,7 @@ use mathlib.Core.List.{List, [], ◌∷◌, ◌++◌, append_assoc}
 use mathlib.Core.Bool.{Bool, true, false, cond, ◌&&◌, false≢true}
 use native.Mathlib.Nat.{not-suc-le-zero, not-le_of_lt, le_of_suc-le-suc, suc-add, pow-suc}
 use native.Mathlib.Omega.{arith}
-use borrow.Author.Tests.{eq-eqb, ne_eqb, eqb-true, eqb-false}
+use borrow.Author.Tests.{eq-eqb, eqb-true, eqb-false}
 use lib.Dec.{eqb}
 use lib.ListN.{length, get_or, take, length-take, length-drop, length-append, get_or-append}
 use Rattle.seq.specs.Lists.{every_of}
@@ -20,6 +20,7 @@ use Rattle.seq.proofs.Laws.Bools.{bool_cases, and_both, and_left, and_right, and
 use Rattle.seq.proofs.Laws.Numbers.{less_or}
 use Rattle.text.specs.Text.{CR, LF, comma, ended, line_length, first_line, after_line, lines_in, all_lines, lines, joined, fields, digit, numeral, value_from, value, digits_in, decimal}
 use Rattle.text.specs.Plain.{joined_by, NoComma, NoEnd}
+use Rattle.text.proofs.Writing.{decimal-other, digits_step, digits-none}
 use Rattle.text.proofs.Laws.Text.{Numeral, numeral-of, digit-of, fields-some, lines_none, lines-some}
 
 -- What ends a line.
@@ -196,10 +197,6 @@ unfolding decimal value_from
 value-decimal n h = ⊎_elim (λ q. rw q (sym (eqb-true n 0 q))) (λ q. rw q (value-digits 10 n h)) (bool_cases (eqb n 0))
 
 -- ---- and their form
-decimal-other : (n : ℕ) → (n ≡ 0 → ⊥) → decimal n ≡ digits_in 10 n
-unfolding decimal
-decimal-other n e = rw (ne_eqb n 0 e)
-
 -- The number 0.
 nought : Numeral (decimal 0)
 unfolding decimal every_of digit
@@ -247,18 +244,9 @@ pub decimal-digits : (n : ℕ) → every_of digit (decimal n) ≡ true
 unfolding decimal every_of digit
 decimal-digits n = ⊎_elim (λ q. rw q) (λ q. rw q (digits-digits 10 n)) (bool_cases (eqb n 0))
 
-digits_step : (d n : ℕ) → (n ≡ 0 → ⊥) → digits_in (suc d) n ≡ digits_in d (n / 10) ++ ((48 + n % 10) ∷ [])
-unfolding digits_in
-digits_step d n e = rw (ne_eqb n 0 e)
-
 digits-some : (d n : ℕ) → (n ≡ 0 → ⊥) → n < 10 ^ d → 0 < length (digits_in d n)
 digits-some zero n e h = absurd (e (omega arith))
 digits-some (suc d) n e h = rw (digits_step d n e) (omega (arith, length-append (digits_in d (n / 10)) ((48 + n % 10) ∷ [])))
-
-digits-none : (d : ℕ) → digits_in d 0 ≡ []
-unfolding digits_in
-digits-none zero = refl
-digits-none (suc d) = refl
 
 -- The first digit of a number that is not 0 is not 0.
 digits-first : (d n : ℕ) → (n ≡ 0 → ⊥) → n < 10 ^ d → get_or (digits_in d n) 0 0 ≡ 48 → ⊥

@@ -1,82 +1,54 @@
--- The loop that makes the digits of a number, from the last to the first. Assumes nothing.
--- Letters: n the number, d the ten bytes; rest what is left of n, i where the digits made so far begin.
-use Prim.Native.Nat.{ℕ, zero, suc, ◌+◌, ◌-◌, ◌/◌, ◌%◌, ◌≤◌, ◌<◌}
-use mathlib.Core.Path.{◌≡◌, refl, sym, ap, ap₂, ◌∙◌}
-use mathlib.Core.List.{List, [], ◌∷◌, ◌++◌, append_assoc, append-nil}
-use mathlib.Core.Bool.{Bool, cond}
+-- The digits of a number, from the last to the first. Assumes nothing.
+--   decimal-first, decimal-more   a number below 10 has one digit; another has those of its tenth, and one more
+-- Letters: n the number, d how many digits there may be.
+use Prim.Native.Nat.{ℕ, zero, suc, ◌+◌, ◌/◌, ◌%◌, ◌^◌, ◌≤◌, ◌<◌}
+use mathlib.Core.Path.{◌≡◌, refl, sym, ap, ◌∙◌}
+use mathlib.Core.Logic.{⊎_elim}
+use mathlib.Core.List.{List, [], ◌∷◌, ◌++◌}
+use native.Mathlib.Nat.{pow-suc}
 use native.Mathlib.Omega.{arith}
-use borrow.Author.Tests.{ne_eqb}
-use lib.ListN.{length, set, take, drop, length-set, length-drop, drop_of_length-le}
-use lib.Seq.{take_all, drop-cons, drop-set-lt, get_or-set_same}
+use borrow.Author.Tests.{eq-eqb, ne_eqb, eqb-true, eqb-false}
+use lib.Dec.{eqb}
+use Rattle.seq.proofs.Laws.Bools.{bool_cases}
 use Rattle.text.specs.Text.{digits_in, decimal}
-use Rattle.text.specs.Inner.{Digits}
 
-pub record Figuring (n : ℕ) (d : List ℕ) (rest i : ℕ) : Type 0 where
-  pub within : i ≤ 10
-  pub long : length d ≡ 10
-  -- the digits of what is left, and those made
-  pub stand : digits_in i rest ++ drop i d ≡ digits_in 10 n
-
-pub figuring_start : (n : ℕ) (d : List ℕ) → length d ≡ 10 → Figuring n d n 10
-figuring_start n d e = record {
-  within = omega arith;
-  long = e;
-  stand = ap (λ (t : List ℕ). digits_in 10 n ++ t) (drop_of_length-le d {i = 10} (omega arith)) ∙ append-nil (digits_in 10 n);
-}
-
--- One digit more.
-digits_step : (i rest : ℕ) → (rest ≡ 0 → ⊥) → digits_in (suc i) rest ≡ digits_in i (rest / 10) ++ ((48 + rest % 10) ∷ [])
-unfolding digits_in
-digits_step i rest e = ap (λ (b : Bool). cond b [] (digits_in i (rest / 10) ++ ((48 + rest % 10) ∷ []))) (ne_eqb rest 0 e)
-
-digits-zero : (i : ℕ) → digits_in i 0 ≡ []
-unfolding digits_in
-digits-zero zero = refl
-digits-zero (suc i) = refl
-
-module _ (n : ℕ) (d : List ℕ) (rest i : ℕ) (s : Figuring n d rest i) where
-  pub figuring_zero : rest ≡ 0 → Digits n d i
-  figuring_zero e = record {
-    within = s.within;
-    stand = ap (λ (t : List ℕ). t ++ drop i d) (sym (ap (digits_in i) e ∙ digits-zero i)) ∙ s.stand;
-  }
-
-  pub figuring_end : i ≤ 0 → Digits n d i
-  unfolding digits_in
-  figuring_end l = record {
-    within = s.within;
-    stand = ap (λ (k : ℕ). digits_in k rest ++ drop i d) (sym none) ∙ s.stand;
-  }
-    where
-      none : i ≡ 0
-      none = omega arith
-
-  -- The digit before those made.
-  placed : (k : ℕ) → i ≡ suc k → (x : ℕ) → drop k (set d k x) ≡ x ∷ drop i d
-  placed k e x =
-      drop-cons (set d k x) k 0 (omega (arith, length-set d k x, s.within, s.long))
-      ∙ ap₂ ◌∷◌ (get_or-set_same d k x 0 (omega (arith, s.within, s.long))) (drop-set-lt (suc k) d k x (omega arith) ∙ ap (λ (j : ℕ). drop j d) (sym e))
-
-  pub figuring_step : 0 < i → (rest ≡ 0 → ⊥) → Figuring n (set d (i - 1) (48 + rest % 10)) (rest / 10) (i - 1)
-  figuring_step l e = record {
-    within = omega (arith, s.within);
-    long = length-set d (i - 1) (48 + rest % 10) ∙ s.long;
-    stand = ap (λ (t : List ℕ). digits_in (i - 1) (rest / 10) ++ t) (placed (i - 1) here (48 + rest % 10))
-        ∙ sym (append_assoc (digits_in (i - 1) (rest / 10)) ((48 + rest % 10) ∷ []) (drop i d))
-        ∙ ap (λ (t : List ℕ). t ++ drop i d) (sym (ap (λ (k : ℕ). digits_in k rest) here ∙ digits_step (i - 1) rest e))
-        ∙ s.stand;
-  }
-    where
-      here : i ≡ suc (i - 1)
-      here = omega arith
-
--- ---- the number in decimal
-pub decimal-zero : (n : ℕ) → n ≡ 0 → 48 ∷ [] ≡ decimal n
+pub decimal-other : (n : ℕ) → (n ≡ 0 → ⊥) → decimal n ≡ digits_in 10 n
 unfolding decimal
-decimal-zero n e = rw e
+decimal-other n e = rw (ne_eqb n 0 e)
 
-pub decimal-digits : (n : ℕ) (d : List ℕ) (i : ℕ) → (n ≡ 0 → ⊥) → length d ≡ 10 → Digits n d i → take (10 - i) (drop i d) ≡ decimal n
+pub digits_step : (d n : ℕ) → (n ≡ 0 → ⊥) → digits_in (suc d) n ≡ digits_in d (n / 10) ++ ((48 + n % 10) ∷ [])
+unfolding digits_in
+digits_step d n e = rw (ne_eqb n 0 e)
+
+pub digits-none : (d : ℕ) → digits_in d 0 ≡ []
+unfolding digits_in
+digits-none zero = refl
+digits-none (suc d) = refl
+
+-- Room for one more digit changes nothing.
+digits-enough : (d n : ℕ) → n < 10 ^ d → digits_in (suc d) n ≡ digits_in d n
+unfolding digits_in
+digits-enough zero n h = rw (eq-eqb n 0 (omega arith))
+digits-enough (suc d) n h =
+    ⊎_elim (λ q. rw q) (λ q. rw q (ap (λ (t : List ℕ). t ++ ((48 + n % 10) ∷ [])) (digits-enough d (n / 10) (omega (arith, pow-suc 10 d)))))
+    (bool_cases (eqb n 0))
+
+decimal-zero : (n : ℕ) → n ≡ 0 → (48 + n % 10) ∷ [] ≡ decimal n
 unfolding decimal
-decimal-digits n d i e l h =
-    take_all (10 - i) (drop i d) (omega (arith, length-drop i d)) ∙ h.stand
-    ∙ sym (ap (λ (b : Bool). cond b (48 ∷ []) (digits_in 10 n)) (ne_eqb n 0 e))
+decimal-zero n q = rw q
+
+pub decimal-first : (n : ℕ) → n < 10 → (48 + n % 10) ∷ [] ≡ decimal n
+decimal-first n h = ⊎_elim (λ q. decimal-zero n (eqb-true n 0 q)) (λ q. some (eqb-false n 0 q)) (bool_cases (eqb n 0))
+  where
+    tenth : n / 10 ≡ 0
+    tenth = omega arith
+
+    some : (n ≡ 0 → ⊥) → (48 + n % 10) ∷ [] ≡ decimal n
+    some q =
+        sym (decimal-other n q ∙ digits_step 9 n q
+        ∙ ap (λ (t : List ℕ). t ++ ((48 + n % 10) ∷ [])) (ap (digits_in 9) tenth ∙ digits-none 9))
+
+pub decimal-more : (n : ℕ) → 10 ≤ n → n < 10 ^ 10 → decimal n ≡ decimal (n / 10) ++ ((48 + n % 10) ∷ [])
+decimal-more n l h =
+    decimal-other n (omega arith) ∙ digits_step 9 n (omega arith)
+    ∙ ap (λ (t : List ℕ). t ++ ((48 + n % 10) ∷ [])) (sym (decimal-other (n / 10) (omega arith) ∙ digits-enough 9 (n / 10) (omega arith)))

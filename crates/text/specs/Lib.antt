@@ -1,4 +1,3 @@
 pub mod Text
 pub mod Plain
 pub mod Buffers
-pub mod Inner

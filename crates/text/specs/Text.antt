@@ -8,10 +8,10 @@
 --   fields l       == the fields of a line: one more than it has commas
 --   numeral f      == the field is a decimal number of 1 to 5 digits with no leading zero but 0 itself
 --   value f        == the number that the digits of a field give (0 of the empty field)
---   number_or f     == the value of a field that is a number, and 100,000, which is no number of 5 digits, of one that is not
+--   number_of f     == the value of a field that is a number, and none of one that is not
 --   decimal n      == the digits of a number below 10 to the power 10, with no leading zero but 0 itself
 -- A lone CR or LF is a byte of its line like any other. Letters: s text, l line, f field; x byte, n number. Laws are in proofs/. Assumes nothing.
-use Rattle.std.specs.Prelude.{ℕ, zero, suc, ◌+◌, ◌*◌, ◌-◌, ◌/◌, ◌%◌, List, [], ◌∷◌, ◌++◌, Bool, not, cond, ◌&&◌, ◌||◌, eqb, leb, length, get_or, take, drop}
+use Rattle.std.specs.Prelude.{ℕ, zero, suc, ◌+◌, ◌*◌, ◌-◌, ◌/◌, ◌%◌, Option, Some, None, List, [], ◌∷◌, ◌++◌, Bool, not, cond, ◌&&◌, ◌||◌, eqb, leb, length, get_or, take, drop}
 use Prim.Native.Char.{code}
 use Prim.Native.String.{String, [] as empty, ◌∷◌ as ◌then◌}
 use Rattle.seq.specs.Lists.{every_of}
@@ -85,8 +85,8 @@ value_from n (x ∷ f) = value_from (n * 10 + (x - 48)) f
 abbrev pub value : List ℕ → ℕ
 value f = value_from 0 f
 
-unfoldable pub number_or : List ℕ → ℕ
-number_or f = cond (numeral f) (value f) 100000
+unfoldable pub number_of : List ℕ → Option ℕ
+number_of f = cond (numeral f) (Some (value f)) None
 
 -- The last d digits of n, with no leading zero: none where n is 0.
 unfoldable pub digits_in : ℕ → ℕ → List ℕ

@@ -1,35 +1,28 @@
 -- A loop that adds to a buffer piece by piece: what it knows after i turns of m, and how a turn keeps it. Assumes nothing.
 -- Letters: t i what i turns have added; o, a the buffer and the place before the loop; out, at now.
-use Prim.Native.Nat.{ℕ, ◌+◌, ◌≤◌, ◌<◌}
+use Prim.Native.Nat.{ℕ, ◌+◌, ◌<◌}
 use mathlib.Core.Path.{◌≡◌, refl, sym, ap, ◌∙◌}
 use mathlib.Core.List.{List, [], ◌∷◌, ◌++◌}
-use native.Mathlib.Nat.{le_antisymm}
 use native.Mathlib.Numerals.{add-one}
-use native.Mathlib.Omega.{arith}
 use lib.ListN.{length, get_or, take}
 use lib.Seq.{take-suc}
-use Rattle.text.specs.Buffers.{Adds}
+use Rattle.text.specs.Buffers.{Added}
+use Rattle.text.specs.declared.Writer.{Writer}
 use Rattle.text.proofs.Laws.Buffers.{adds-nil, adds-append, adds_same}
 
-pub record Adding (t : ℕ → List ℕ) (m : ℕ) (o : List ℕ) (a : ℕ) (out : List ℕ) (at i : ℕ) : Type 0 where
-  pub within : i ≤ m
-  pub long : length out ≡ length o
-  pub added : Adds (t i) o a out at
-
 -- One entry more of a list.
-pub take_more : (l : List ℕ) (i : ℕ) → i < length l → take (i + 1) l ≡ take i l ++ (get_or l i 0 ∷ [])
-take_more l i h = ap (λ (k : ℕ). take k l) (add-one i) ∙ take-suc l i 0 h
+pub take_more : {A : Type 0} (l : List A) (i : ℕ) (x : A) → i < length l → x ≡ get_or l i x → take (i + 1) l ≡ take i l ++ (x ∷ [])
+take_more l i x h e = ap (λ (k : ℕ). take k l) (add-one i) ∙ take-suc l i x h ∙ ap (λ y. take i l ++ (y ∷ [])) (sym e)
 
-pub adding-start : (t : ℕ → List ℕ) (m : ℕ) (o : List ℕ) (a : ℕ) → t 0 ≡ [] → Adding t m o a o a 0
-adding-start t m o a e = record { within = omega arith; long = refl; added = adds_same [] (t 0) o o a a (sym e) (adds-nil o a) }
+module _ {A : Type 0} where
+  pub added-start : (w : Writer A) → Added [] w w
+  added-start w = record { same = refl; adds = adds-nil w.out.now w.at }
 
-module _ (t : ℕ → List ℕ) (m : ℕ) (o : List ℕ) (a : ℕ) (out : List ℕ) (at i : ℕ) (s : Adding t m o a out at i) where
-  pub adding-step : (piece out' : List ℕ) (at' : ℕ) → i < m → t (i + 1) ≡ t i ++ piece → length out' ≡ length out → Adds piece out at out' at' → Adding t m o a out' at' (i + 1)
-  adding-step piece out' at' l e k h = record {
-    within = omega arith;
-    long = k ∙ s.long;
-    added = adds_same (t i ++ piece) (t (i + 1)) o out' a at' (sym e) (adds-append (t i) piece o out out' a at at' s.added h);
+  pub added-step : (s t st : List A) (w₀ w w' : Writer A) → Added s w₀ w → Added t w w' → st ≡ s ++ t → Added st w₀ w'
+  added-step s t st w₀ w w' f g e = record {
+    same = g.same ∙ f.same;
+    adds = adds_same (s ++ t) st _ _ _ _ (sym e) (adds-append s t _ _ _ _ _ _ f.adds g.adds);
   }
 
-  pub adding-end : m ≤ i → Adds (t m) o a out at
-  adding-end l = adds_same (t i) (t m) o out a at (ap t (le_antisymm s.within l)) s.added
+  pub added_same : (s t : List A) (w w' : Writer A) → Added s w w' → s ≡ t → Added t w w'
+  added_same s t w w' h e = rw e at h

@@ -1,7 +1,7 @@
 -- Laws of lines, fields and numbers. Assumes nothing.
---   ended_at, ended-short             a line end at a place of a text
+--   ended_at, ended_starts-at         a line end at a place of a text
 --   line_step, line-stop, line-none   the length of a line, byte by byte; so field_step, field-stop, field-none
---   Numeral, numeral-of, numeral-at   what the test for a number means
+--   Numeral, numeral-of, numeral-at   what the test for a number means; Number, number-some, number-none_is   what the number of a field says of it
 --   value-small                       a number of five digits
 --   fields-last, fields-more          the fields of a line, one by one; so lines_none, lines-some
 --   line-end_unique, field-end_unique, number_unique   no second outcome fits `line_end`, `field_end`, `number`
@@ -14,29 +14,20 @@ use native.Mathlib.Nat.{add-zero, one-mul, mul_assoc, mul-le-mul_right, pow-succ
 use native.Mathlib.Omega.{arith}
 use borrow.Author.Tests.{le-leb, leb-true, eqb-true, eqb-false, eq-eqb, ne_eqb, not-true}
 use lib.Dec.{eqb, leb, eqb-suc-zero}
-use lib.ListN.{length, get_or, take, drop, length-drop, drop_of_length-le, get_or-eq_default}
-use lib.Seq.{drop-cons, get_or-drop}
+use lib.ListN.{length, get_or, take, drop, length-drop, drop_of_length-le}
+use lib.Seq.{take_all, drop-cons, get_or-drop}
 use Rattle.seq.specs.Lists.{every_of}
-use Rattle.seq.proofs.Laws.Bools.{bool_cases, bool_false, and_left, and_right, and_both, and_false-right, or_cases, or_left, or_right}
-use Rattle.text.specs.Text.{CR, LF, comma, ended, line_length, first_line, after_line, lines_in, all_lines, field_length, joined, fields, digit, numeral, value_from, value}
-use Rattle.text.specs.Text.{number_or}
+use Rattle.seq.proofs.Laws.Bools.{bool_cases, bool_false, and_left, and_right, and_both, and_false-right, eqb-sym, or_cases, or_left, or_right}
+use Rattle.text.specs.Text.{CR, LF, comma, ended, line_length, first_line, after_line, lines_in, all_lines, field_length, joined, fields, digit, numeral, value_from, value, number_of}
+use Rattle.std.specs.Char.{is_ascii_digit}
+use Rattle.std.specs.List.{starts_with}
+use Rattle.std.specs.Prelude.{Option, Some, None}
 
 -- ---- lines
 module _ (s : List ℕ) (i : ℕ) where
   pub ended_at : ended (drop i s) ≡ (eqb (get_or s i 0) CR && eqb (get_or s (i + 1) 0) LF)
   unfolding ended
   ended_at = ap₂ (λ (a b : ℕ). eqb a CR && eqb b LF) (get_or-drop i s 0 0 ∙ ap (λ (k : ℕ). get_or s k 0) (add-zero i)) (get_or-drop i s 1 0)
-
-  -- After a CR it is the next byte that tells.
-  pub ended-next : get_or s i 0 ≡ CR → ended (drop i s) ≡ eqb (get_or s (i + 1) 0) LF
-  ended-next e = ended_at ∙ ap (λ (b : Bool). b && eqb (get_or s (i + 1) 0) LF) (eq-eqb (get_or s i 0) CR e)
-
-  -- A line end takes two bytes.
-  pub ended-short : length s ≤ i + 1 → ended (drop i s) ≡ false
-  unfolding ended
-  ended-short l =
-      and_false-right (eqb (get_or (drop i s) 0 0) CR) _
-      (ap (λ (b : ℕ). eqb b LF) (get_or-eq_default (drop i s) 0 {n = 1} (omega (arith, length-drop i s))))
 
   pub line_step : i < length s → ended (drop i s) ≡ false → line_length (drop i s) ≡ suc (line_length (drop (suc i) s))
   unfolding line_length
@@ -62,6 +53,21 @@ module _ (s : List ℕ) (i : ℕ) where
   unfolding field_length
   field-none l = ap field_length (drop_of_length-le s l)
 
+true_right : (b : Bool) → (b && true) ≡ b
+true_right true = refl
+true_right false = refl
+
+ended-starts : (s : List ℕ) → starts_with eqb s (CR ∷ LF ∷ []) ≡ ended s
+unfolding ended
+ended-starts [] = refl
+ended-starts (x ∷ []) = and_false-right (eqb CR x) _ refl ∙ sym (and_false-right (eqb x CR) _ refl)
+ended-starts (x ∷ y ∷ s) = ap₂ (λ (a b : Bool). a && b) (eqb-sym CR x) (true_right (eqb LF y) ∙ eqb-sym LF y)
+
+-- Whether CR LF stands at a place.
+pub ended_starts-at : (s : List ℕ) (i : ℕ) (r : Bool) → r ≡ starts_with eqb (take (length s - i) (drop i s)) (CR ∷ LF ∷ []) → ended (drop i s) ≡ r
+ended_starts-at s i r e =
+    sym (e ∙ ap (λ (t : List ℕ). starts_with eqb t (CR ∷ LF ∷ [])) (take_all (length s - i) (drop i s) (omega (arith, length-drop i s))) ∙ ended-starts (drop i s))
+
 pub line-stop : (s : List ℕ) → ended s ≡ true → line_length s ≡ 0
 unfolding line_length
 line-stop [] e = refl
@@ -79,6 +85,11 @@ pub record Digit (b : ℕ) : Type 0 where
 pub digit_at : (b : ℕ) → digit b ≡ true → Digit b
 unfolding digit
 digit_at b e = record { low = leb-true 48 b (and_left _ _ e); high = leb-true b 57 (and_right (leb 48 b) _ e) }
+
+-- What the test for a digit says.
+pub digit_said : (b : ℕ) (r : Bool) → r ≡ is_ascii_digit b → digit b ≡ r
+unfolding digit
+digit_said b r e = sym e
 
 -- A decimal number of 1 to 5 digits with no leading zero but 0 itself.
 pub record Numeral (f : List ℕ) : Type 0 where
@@ -108,18 +119,39 @@ numeral-at f e =
           (λ q. absurd (eqb-false (get_or f 0 0) 48 (not-true _ q) z)) (or_cases (eqb (length f) 1) _ (and_right (every_of digit f) _ rest));
     }
 
--- What fails to be a number gives 100,000.
-pub number-none : (f : List ℕ) → (Numeral f → ⊥) → 100000 ≡ number_or f
-unfolding number_or
+-- What fails to be a number gives none.
+pub number-none : (f : List ℕ) → (Numeral f → ⊥) → None ≡ number_of f
+unfolding number_of
 number-none f h = sym (rw (bool_false (numeral f) (λ e. h (numeral-at f e))))
 
-pub number-other : (f : List ℕ) → numeral f ≡ false → number_or f ≡ 100000
-unfolding number_or
+pub number-other : (f : List ℕ) → numeral f ≡ false → number_of f ≡ None
+unfolding number_of
 number-other f e = rw e
 
-pub number_is : (f : List ℕ) → Numeral f → number_or f ≡ value f
-unfolding number_or
+pub number_is : (f : List ℕ) → Numeral f → number_of f ≡ Some (value f)
+unfolding number_of
 number_is f n = rw (numeral-of f n)
+
+-- What the number of a field says of it.
+pub record Number (f : List ℕ) (x : ℕ) : Type 0 where
+  pub is : numeral f ≡ true
+  pub gives : x ≡ value f
+
+pub number-some : (f : List ℕ) (x : ℕ) → number_of f ≡ Some x → Number f x
+number-some f x e =
+    ⊎_elim (λ q. record { is = q; gives = some (sym e ∙ number_is f (numeral-at f q)) }) (λ q. absurd (none (sym (number-other f q) ∙ e))) (bool_cases (numeral f))
+  where
+    some : Some x ≡ Some (value f) → x ≡ value f
+    some q = cc
+
+    none : None ≡ Some x → ⊥
+    none q = cc
+
+pub number-none_is : (f : List ℕ) → number_of f ≡ None → numeral f ≡ false
+number-none_is f e = bool_false (numeral f) (λ q. none (sym e ∙ number_is f (numeral-at f q)))
+  where
+    none : None ≡ Some (value f) → ⊥
+    none q = cc
 
 -- The digits of f after a number n give a number below (n + 1) * 10 ^ length f.
 value-below : (f : List ℕ) (n : ℕ) → every_of digit f ≡ true → value_from n f < (n + 1) * 10 ^ length f
@@ -220,5 +252,5 @@ line-end_unique s at r q x y = x ∙ sym y
 pub field-end_unique : (l : List ℕ) (at r q : ℕ) → r ≡ at + field_length (drop at l) → q ≡ at + field_length (drop at l) → r ≡ q
 field-end_unique l at r q x y = x ∙ sym y
 
-pub number_unique : (f : List ℕ) (r q : ℕ) → r ≡ number_or f → q ≡ number_or f → r ≡ q
+pub number_unique : (f : List ℕ) (r q : Option ℕ) → r ≡ number_of f → q ≡ number_of f → r ≡ q
 number_unique f r q x y = x ∙ sym y

@@ -1,12 +1,7 @@
 -- `text::field_end` meets its contract: glue over Scanning.
-use Prim.Native.Nat.{◌-◌}
-use lib.ListN.{length}
 use Rattle.text.specs.Text.{field_length}
 use Rattle.text.proofs.Scanning.{Run}
 use Rattle.text.proofs.field_end.Given as goal
 
 abbrev pub invariant-loop-i : goal.invariant-loop-i
 invariant-loop-i l = Run field_length l.l l.at l.i
-
-abbrev pub decreases-loop-i : goal.decreases-loop-i
-decreases-loop-i l = length l.l - l.i

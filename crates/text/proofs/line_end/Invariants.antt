@@ -1,12 +1,7 @@
 -- `text::line_end` meets its contract: glue over Scanning.
-use Prim.Native.Nat.{◌-◌}
-use lib.ListN.{length}
 use Rattle.text.specs.Text.{line_length}
 use Rattle.text.proofs.Scanning.{Run}
 use Rattle.text.proofs.line_end.Given as goal
 
 abbrev pub invariant-loop-i : goal.invariant-loop-i
 invariant-loop-i l = Run line_length l.s l.at l.i
-
-abbrev pub decreases-loop-i : goal.decreases-loop-i
-decreases-loop-i l = length l.s - l.i

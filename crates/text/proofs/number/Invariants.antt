@@ -1,10 +1,6 @@
 -- `text::number` meets its contract: glue over Scanning.
-use Prim.Native.Nat.{◌-◌}
 use Rattle.text.proofs.Scanning.{Figures}
 use Rattle.text.proofs.number.Given as goal
 
-abbrev pub invariant-loop-i : goal.invariant-loop-i
-invariant-loop-i l = Figures l.f l.i l.x
-
-abbrev pub decreases-loop-i : goal.decreases-loop-i
-decreases-loop-i l = l.n - l.i
+abbrev pub invariant-loop-b : goal.invariant-loop-b
+invariant-loop-b l = Figures l.f l.b-index l.x
