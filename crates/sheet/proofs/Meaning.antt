@@ -23,7 +23,8 @@ use Rattle.seq.proofs.Laws.Plain.{lowest-first}
 use Rattle.seq.proofs.Laws.Lists.{tally-append, same_list-is, same_list_self}
 use Rattle.seq.proofs.Laws.Numbers.{less_or}
 use Rattle.text.specs.Text.{bytes, lines, fields, numeral, value}
-use Rattle.sheet.specs.declared.Read.TheVariants.{Broken, Taken}
+use Rattle.std.specs.Prelude.{Ok, Err}
+use Rattle.sheet.specs.declared.Broken.TheVariants.{TooLong, Line}
 use Rattle.sheet.specs.Table.{times, header_text, positives, negatives, words_of, header_ok, occurrence, field_ok, row_ok, line_ok, broken, table_of}
 use Rattle.sheet.specs.Promises.{shape_of, read_of}
 use Rattle.sheet.specs.Plain.{Header, Row, Keeps, LawfulLines, First, Told}
@@ -107,19 +108,19 @@ none-broken : (L : List (List ℕ)) → LawfulLines L → length L ≡ broken L
 unfolding broken
 none-broken L l = sym (first-all (length L) _ l.keeps)
 
-pub input-long : (s : List ℕ) → 16384 < length s → read_of s ≡ Broken 0
+pub input-long : (s : List ℕ) → 16384 < length s → read_of s ≡ Err TooLong
 unfolding read_of
 input-long s h = rw (lt-ltb 16384 (length s) h)
 
 module _ (s : List ℕ) (h : length s ≤ 16384) where
-  pub input-first : (i : ℕ) → First (lines s) i → read_of s ≡ Broken (suc i)
+  pub input-first : (i : ℕ) → First (lines s) i → read_of s ≡ Err (Line (suc i))
   input-first i f =
-      read-lines s [] h ∙ read-broken (lines s) (omega (arith, is, f.within)) ∙ ap (λ (k : ℕ). Broken (suc k)) (sym is)
+      read-lines s [] h ∙ read-broken (lines s) (omega (arith, is, f.within)) ∙ ap (λ (k : ℕ). Err (Line (suc k))) (sym is)
     where
       is : i ≡ broken (lines s)
       is = first-broken (lines s) i f
 
-  pub input_none : LawfulLines (lines s) → read_of s ≡ Taken (shape_of (table_of (lines s)))
+  pub input_none : LawfulLines (lines s) → read_of s ≡ Ok (shape_of (table_of (lines s)))
   input_none l = read-lines s [] h ∙ read_taken (lines s) (omega (arith, none-broken (lines s) l))
 
 first_of : (L : List (List ℕ)) → broken L < length L → First L (broken L)

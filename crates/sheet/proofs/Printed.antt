@@ -19,7 +19,7 @@ use Rattle.text.specs.Text.{bytes, lines, fields, numeral, value, decimal}
 use Rattle.text.specs.Plain.{NoComma, NoEnd}
 use Rattle.text.proofs.Meaning.{value-decimal, decimal-digits, numeral-decimal}
 use Rattle.text.proofs.Written.{fields-joined, digits-free, high, high-append, high-free, high-digits, high-joined, lines-written}
-use Rattle.sheet.specs.declared.Read.TheVariants.{Taken}
+use Rattle.std.specs.Prelude.{Ok}
 use Rattle.sheet.specs.Table.{Table, times, header_text, words_of, width, occurrence, row_ok, line_ok, row_of, cells_of, table_of}
 use Rattle.sheet.specs.Promises.{shape_of, read_of}
 use Rattle.sheet.specs.Plain.{Row, Keeps}
@@ -130,10 +130,10 @@ module _ (p q : ℕ) (R : List (List ℕ)) (t : Printable p q R) where
       all : cells_of (map row_text R) ≡ all_rows R
       all = cells_are R (λ v l. row_is (get_or R v []) (node-some v l) (node-small v l))
 
-  pub printed_read : read_of (table_text p q R) ≡ Taken (record { p = p; q = q; n = length R })
+  pub printed_read : read_of (table_text p q R) ≡ Ok (record { p = p; q = q; n = length R })
   printed_read =
       input_none (table_text p q R) t.short (rw lines_are (record { keeps = keeps }))
-      ∙ ap (λ (T : Table). Taken (shape_of T)) printed_table
+      ∙ ap (λ (T : Table). Ok (shape_of T)) printed_table
 
 -- ---- the numbers of all lines
 pub rows-cell : (w : ℕ) (R : List (List ℕ)) (v i : ℕ) → ((u : ℕ) → u < length R → length (get_or R u []) ≡ w) → v < length R → i < w →

@@ -1,14 +1,14 @@
 -- The whole text: its header, and then its node lines. Assumes nothing.
 --   header-judged                      what the header test says of the first line
 --   table-long, table-header, table-broken, table_taken    the four outcomes
--- Letters: s text, L its node lines; to where its first line ends; p positive, q negative words; c the cells lent, c' the cells at the end.
+-- Letters: s text, L its node lines; to where its first line ends; p positive, q negative words; c the cells lent, or their writer, c' the same at the end.
 use Prim.Native.Nat.{ℕ, suc, min, ◌+◌, ◌*◌, ◌≤◌, ◌<◌}
 use mathlib.Core.Path.{◌≡◌, refl, sym, ap, ap₂, ◌∙◌}
 use mathlib.Core.List.{List}
 use mathlib.Core.Bool.{Bool, true, false, ◌&&◌}
 use native.Mathlib.Numerals.{add-two}
 use native.Mathlib.Omega.{arith}
-use borrow.Author.Tests.{le-ltb, lt-ltb, leb-true, eqb-true, eqb-false}
+use borrow.Author.Tests.{le-ltb, lt-ltb, leb-true}
 use lib.Dec.{leb}
 use lib.ListN.{length, take, drop}
 use Rattle.seq.specs.Below.{first_fail}
@@ -18,15 +18,18 @@ use Rattle.seq.proofs.Laws.Below.{first_le}
 use Rattle.text.specs.Text.{line_length, first_line, after_line, all_lines, lines}
 use Rattle.text.specs.Buffers.{front}
 use Rattle.text.proofs.Laws.Text.{line_length_le}
-use Rattle.text.proofs.Laws.Buffers.{front-nil}
-use Rattle.sheet.specs.declared.NodeLines.{NodeLines}
-use Rattle.sheet.specs.declared.Read.TheVariants.{Broken, Taken}
+use Rattle.text.proofs.Laws.Buffers.{front-nil, adds-all}
+use Rattle.text.specs.declared.Writer.{Writer}
+use Rattle.std.specs.Prelude.{Result, Ok, Err}
+use Rattle.sheet.specs.declared.Shape.{Shape}
+use Rattle.sheet.specs.declared.Broken.{Broken}
+use Rattle.sheet.specs.declared.Broken.TheVariants.{TooLong, Line}
 use Rattle.sheet.specs.Table.{header_text, positives, negatives, words_of, header_ok, width, line_ok, broken, table_of}
-use Rattle.sheet.specs.Inner.{node_line_ok, RowsRead}
+use Rattle.sheet.specs.Inner.{node_line_ok, good_lines, RowsRead}
 use Rattle.sheet.specs.Promises.{shape_of, read_lines, read_of, cells_read, TableRead}
-use Rattle.sheet.proofs.Lining.{drop_min}
+use Rattle.sheet.proofs.Lining.{drop_min, AllGood, told_ok, OneBad, told_err}
 
-pub table-long : (s c : List ℕ) → 16384 < length s → TableRead s c (Broken 0) c
+pub table-long : (s c : List ℕ) → 16384 < length s → TableRead s c (Err TooLong) c
 unfolding read_of cells_read
 table-long s c h = record {
   read = sym (rw (lt-ltb 16384 (length s) h));
@@ -39,7 +42,7 @@ module _ (s c : List ℕ) (h : length s ≤ 16384) where
   unfolding read_of
   read-lines = rw (le-ltb 16384 (length s) h)
 
-  pub table-header : header_ok (first_line s) ≡ false → TableRead s c (Broken 1) c
+  pub table-header : header_ok (first_line s) ≡ false → TableRead s c (Err (Line 1)) c
   unfolding cells_read read_lines broken lines first_fail line_ok
   table-header e = record {
     read = sym (read-lines ∙ rw e (rw (lt-ltb 0 (suc (length (all_lines (after_line s)))) (omega arith))));
@@ -47,16 +50,16 @@ module _ (s c : List ℕ) (h : length s ≤ 16384) where
   }
 
 -- ---- a text by its lines
-pub read-broken : (L : List (List ℕ)) → broken L < length L → read_lines L ≡ Broken (suc (broken L))
+pub read-broken : (L : List (List ℕ)) → broken L < length L → read_lines L ≡ Err (Line (suc (broken L)))
 unfolding read_lines
 read-broken L h = rw (lt-ltb (broken L) (length L) h)
 
-pub read_taken : (L : List (List ℕ)) → length L ≤ broken L → read_lines L ≡ Taken (shape_of (table_of L))
+pub read_taken : (L : List (List ℕ)) → length L ≤ broken L → read_lines L ≡ Ok (shape_of (table_of L))
 unfolding read_lines
 read_taken L h = rw (le-ltb (broken L) (length L) h)
 
-shape_is : (p q n p' q' n' : ℕ) → p ≡ p' → q ≡ q' → n ≡ n' → Taken (record { p = p; q = q; n = n }) ≡ Taken (record { p = p'; q = q'; n = n' })
-shape_is p q n p' q' n' a b c = λ i. Taken (record { p = a i; q = b i; n = c i })
+shape_is : (p q n p' q' n' : ℕ) → p ≡ p' → q ≡ q' → n ≡ n' → ◌≡◌ {A = Result Shape Broken} (Ok (record { p = p; q = q; n = n })) (Ok (record { p = p'; q = q'; n = n' }))
+shape_is p q n p' q' n' a b c = λ i. Ok (record { p = a i; q = b i; n = c i })
 
 -- ---- the header
 pub record Head (s : List ℕ) (to p q : ℕ) : Type 0 where
@@ -102,7 +105,7 @@ module _ (s : List ℕ) (to p q : ℕ) (d : Head s to p q) where
             (and_right (leb 1 (positives (first_line s))) _ (and_left (leb 1 (positives (first_line s)) && leb (words_of (first_line s)) 8) _ e)),
       )
 
-  module _ (c : List ℕ) (h : length s ≤ 16384) (e : header_ok (first_line s) ≡ true) (r : NodeLines) (c' : List ℕ)
+  module _ (h : length s ≤ 16384) (e : header_ok (first_line s) ≡ true) (c c' : Writer ℕ) (at : c.at ≡ 0) (r : Result ℕ Broken)
       (rows : RowsRead (2 + 2 * (p + q)) (all_lines (drop (min (to + 2) (length s)) s)) c r c') where
     -- The node lines, and how many fields they must have.
     L : List (List ℕ)
@@ -111,40 +114,43 @@ module _ (s : List ℕ) (to p q : ℕ) (d : Head s to p q) where
     w : ℕ
     w = width (words_of (first_line s))
 
-    nodes : RowsRead w L c r c'
+    read_so : RowsRead w L c r c'
     unfolding L w
-    nodes =
+    read_so =
         rw (ap (λ (k : ℕ). 2 + 2 * k) (ap₂ ◌+◌ is-p is-q), drop_min (to + 2) s ∙ ap (λ (k : ℕ). drop (k + 2) s) d.ends) at rows
 
-    first-broken : broken (lines s) ≡ suc r.n
+    first-broken : broken (lines s) ≡ suc (good_lines w L)
     unfolding L w broken lines first_fail line_ok
-    first-broken = rw e (ap suc (sym nodes.nodes))
+    first-broken = rw e
 
     size : length (lines s) ≡ suc (length L)
     unfolding L lines
     size = refl
 
-    all-cells : c' ≡ front (cells_read s) c
+    all-cells : c'.out.now ≡ front (cells_read s) c.out.now
     unfolding L w cells_read
-    all-cells = nodes.cells ∙ sym (rw (le-ltb 16384 (length s) h, e))
+    all-cells = (adds-all _ _ _ _ (rw at at read_so.cells.adds)).holds ∙ sym (rw (le-ltb 16384 (length s) h, e))
 
-    few : r.n ≤ length L
-    few = omega (arith, nodes.nodes, first_le (length L) (node_line_ok w L))
+    few : good_lines w L ≤ length L
+    few = first_le (length L) (node_line_ok w L)
 
-    pub table_taken : r.good ≡ true → TableRead s c (Taken (record { p = p; q = q; n = r.n })) c'
+    pub table_taken : (n : ℕ) (x : List ℕ) → r ≡ Ok n → x ≡ c'.out.now → TableRead s c.out.now (Ok (record { p = p; q = q; n = n })) x
     unfolding L table_of lines
-    table_taken g = record {
-      read = sym (read-lines s c h ∙ read_taken (lines s) (omega (arith, first-broken, size, all))
-          ∙ shape_is _ _ _ p q r.n (sym is-p) (sym is-q) (sym all));
-      cells = all-cells;
+    table_taken n x g z = record {
+      read = sym (read-lines s c.out.now h ∙ read_taken (lines s) (omega (arith, first-broken, size, told.all))
+          ∙ shape_is _ _ _ p q n (sym is-p) (sym is-q) (omega (arith, told.all, told.is)));
+      cells = z ∙ all-cells;
     }
       where
-        all : r.n ≡ length L
-        all = eqb-true r.n (length L) (sym nodes.good ∙ g)
+        told : AllGood w L n
+        told = told_ok w n L (sym g ∙ read_so.told)
 
-    pub table-broken : r.good ≡ false → TableRead s c (Broken (r.n + 2)) c'
-    table-broken g = record {
-      read = sym (read-lines s c h ∙ read-broken (lines s) (omega (arith, first-broken, size, few, eqb-false r.n (length L) (sym nodes.good ∙ g)))
-          ∙ ap Broken (ap suc first-broken ∙ sym (add-two r.n)));
-      cells = all-cells;
+    pub table-broken : (b : Broken) (x : List ℕ) → r ≡ Err b → x ≡ c'.out.now → TableRead s c.out.now (Err b) x
+    table-broken b x g z = record {
+      read = sym (read-lines s c.out.now h ∙ read-broken (lines s) (omega (arith, first-broken, size, told.before))
+          ∙ ap (λ (k : ℕ). Err (Line k)) (ap suc first-broken ∙ sym (add-two (good_lines w L))) ∙ ap Err (sym told.is));
+      cells = z ∙ all-cells;
     }
+      where
+        told : OneBad w L b
+        told = told_err w b L (sym g ∙ read_so.told)

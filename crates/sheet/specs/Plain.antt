@@ -3,14 +3,15 @@
 --   Row w l    == l has w fields, each a number of 1 to 5 digits with no leading zero but 0 itself; where one says whether a word occurs it is 0 or 1
 --   LawfulLines L   == every line of a text with the lines L keeps the rules
 --   First L i  == line i, from 0, breaks a rule, and every line before it keeps them
---   Told s r   == what the outcome r of reading says of the text s: INPUT at place 0, too long; at another place, the first line, from 1, that
---                 breaks a rule; a table, no line breaks one
+--   Told s r   == what the outcome r of reading says of the text s: that it is too long; the first line, from 1, that breaks a rule; a table, no
+--                 line breaks one
 -- Letters: s text, L lines, l line; w fields; i line or field; r outcome. Assumes nothing.
-use Rattle.std.specs.Prelude.{ℕ, zero, suc, ◌+◌, ◌≤◌, ◌<◌, ◌≡◌, List, [], true, length, get_or}
+use Rattle.std.specs.Prelude.{ℕ, zero, suc, ◌+◌, ◌≤◌, ◌<◌, ◌≡◌, List, [], true, Result, Ok, Err, length, get_or}
 use Rattle.seq.specs.Plain.{LowestBad}
 use Rattle.text.specs.Text.{lines, fields, numeral, value}
-use Rattle.sheet.specs.declared.Read.{Read}
-use Rattle.sheet.specs.declared.Read.TheVariants.{Broken, Taken}
+use Rattle.sheet.specs.declared.Shape.{Shape}
+use Rattle.sheet.specs.declared.Broken.{Broken}
+use Rattle.sheet.specs.declared.Broken.TheVariants.{TooLong, Line}
 use Rattle.sheet.specs.Table.{header_text, words_of, occurrence, line_ok, table_of}
 use Rattle.sheet.specs.Promises.{shape_of}
 
@@ -36,7 +37,8 @@ pub record LawfulLines (L : List (List ℕ)) : Type 0 where
 abbrev pub First : List (List ℕ) → ℕ → Type 0
 First L i = LowestBad (length L) (Keeps L) i
 
-unfoldable pub Told : List ℕ → Read → Type 0
-Told s (Broken zero) = 16384 < length s
-Told s (Broken (suc i)) = (length s ≤ 16384) × First (lines s) i
-Told s (Taken t) = (length s ≤ 16384) × (LawfulLines (lines s) × (t ≡ shape_of (table_of (lines s))))
+unfoldable pub Told : List ℕ → Result Shape Broken → Type 0
+Told s (Err TooLong) = 16384 < length s
+Told s (Err (Line zero)) = ⊥
+Told s (Err (Line (suc i))) = (length s ≤ 16384) × First (lines s) i
+Told s (Ok t) = (length s ≤ 16384) × (LawfulLines (lines s) × (t ≡ shape_of (table_of (lines s))))

@@ -9,7 +9,7 @@ ghost use Rattle.sheet.specs.Inner.{most_in, RowRead, RowsRead};
 ghost use Rattle.sheet.specs.Promises.{TableRead};
 
 use header::{count, header_ok};
-use text::{field_end, line_end, number, put_word};
+use text::{Writer, field_end, line_end, number};
 
 // A table: p positive and q negative words, n nodes.
 #[derive(Clone, Copy)]
@@ -19,109 +19,81 @@ pub struct Shape {
     pub n: usize,
 }
 
-// What reading a table gives: the place of INPUT, or the table.
+// Why a text is no table: it is too long, or a line, from 1, is the first that breaks a rule.
 #[derive(Clone, Copy)]
-pub enum Read {
-    Broken(u32),
-    Taken(Shape),
-}
-
-// Whether a node line is good, and the next place in the cells.
-#[derive(Clone, Copy)]
-struct NodeLine {
-    pub good: bool,
-    pub next: usize,
-}
-
-// How many node lines are good, and whether these are all.
-#[derive(Clone, Copy)]
-struct NodeLines {
-    pub good: bool,
-    pub n: usize,
+pub enum Broken {
+    TooLong,
+    Line(u32),
 }
 
 // The largest number that field i of a node line may be: 1 where it says whether a word occurs, else any number of five digits.
+#[tactic(auto, unfolding(crate::specs::Inner::most_in, crate::specs::Table::occurrence))]
 fn most(i: usize) -> u32
     ensures { result ≡ most_in i }
 {
-    if i < 2 {
-        return 99999;
+    match i {
+        2.. if i % 2 == 0 => 1,
+        _ => 99999,
     }
-    if i % 2 == 0 {
-        return 1;
-    }
-    99999
 }
 
-// Reads a node line of so many fields. The numbers before the first bad field are put behind the cells.
-fn read_row(l: &[u8], width: usize, cells: &mut [u32], at: usize) -> NodeLine
-    ensures { RowRead width l.now cells.old at result cells.new }
+// Reads a node line of so many fields: whether it is good. The numbers before the first bad field are put behind the cells.
+fn read_row(l: &[u8], width: usize, cells: &mut Writer<u32>) -> bool
+    ensures { RowRead width l.now cells.old result cells.new }
 {
-    let mut next = at;
-    let mut i: usize = 0;
     let mut from: usize = 0;
-    while i < width {
+    for i in 0..width {
         let to = field_end(l, from);
-        let x = number(&l[from..to]);
+        let Some(x) = number(&l[from..to]) else {
+            return false;
+        };
         if most(i) < x {
-            return NodeLine { good: false, next };
+            return false;
         }
-        next = put_word(&mut *cells, next, x);
-        i += 1;
+        cells.put(x);
         if to == l.len() {
-            return NodeLine {
-                good: i == width,
-                next,
-            };
+            return i + 1 == width;
         }
         from = to + 1;
     }
     // a field too many
-    NodeLine { good: false, next }
+    false
 }
 
-// Reads the node lines from a place of the text on, at most 256. Their numbers go to the front of the cells.
-fn read_rows(s: &[u8], at: usize, width: usize, cells: &mut [u32]) -> NodeLines
+// Reads the node lines from a place of the text on, at most 256: how many there are, or the first bad line. Their numbers are put behind the cells.
+fn read_rows(s: &[u8], at: usize, width: usize, cells: &mut Writer<u32>) -> Result<usize, Broken>
     requires { at ≤ length s.now }
     ensures { RowsRead width (all_lines (drop at s.now)) cells.old result cells.new }
 {
-    let mut next: usize = 0;
     let mut v: usize = 0;
     let mut from = at;
     while from < s.len() {
-        if v == 256 {
-            return NodeLines { good: false, n: v };
-        }
         let to = line_end(s, from);
-        let row = read_row(&s[from..to], width, &mut *cells, next);
-        if !row.good {
-            return NodeLines { good: false, n: v };
+        if v == 256 || !read_row(&s[from..to], width, &mut *cells) {
+            return Err(Broken::Line(v as u32 + 2));
         }
-        next = row.next;
         v += 1;
-        from = seq::least(to + 2, s.len());
+        from = (to + 2).min(s.len());
     }
-    NodeLines { good: true, n: v }
+    Ok(v)
 }
 
 // Reads a table. Length is tested first, then the header, then each further line.
-pub fn read_table(s: &[u8], cells: &mut [u32]) -> Read
+pub fn read_table(s: &[u8], cells: &mut [u32]) -> Result<Shape, Broken>
     ensures { TableRead s.now cells.old result cells.new }
 {
     if 16384 < s.len() {
-        return Read::Broken(0);
+        return Err(Broken::TooLong);
     }
     let to = line_end(s, 0);
-    let p = count(&s[..to], 43);
-    let q = count(&s[..to], 45);
-    if !header_ok(&s[..to], p, q) {
-        return Read::Broken(1);
+    let header = &s[..to];
+    let p = count(header, b'+');
+    let q = count(header, b'-');
+    if !header_ok(header, p, q) {
+        return Err(Broken::Line(1));
     }
-    let at = seq::least(to + 2, s.len());
-    let rows = read_rows(s, at, 2 + 2 * (p + q), cells);
-    let n = rows.n;
-    if rows.good {
-        return Read::Taken(Shape { p, q, n });
-    }
-    Read::Broken((n + 2) as u32)
+    let at = (to + 2).min(s.len());
+    let mut cells = Writer { out: cells, at: 0 };
+    let n = read_rows(s, at, 2 + 2 * (p + q), &mut cells)?;
+    Ok(Shape { p, q, n })
 }

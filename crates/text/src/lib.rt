@@ -2,7 +2,7 @@
 // Each function takes slices of any length and any content. What does not fit a buffer is not written, and the next place stays at the buffer's end.
 #![tactic(auto)]
 
-ghost use Rattle.std.specs.Prelude.{◌≡◌, ◌+◌, ◌∷◌, [], drop};
+ghost use Rattle.std.specs.Prelude.{◌≡◌, ◌+◌, ◌≤◌, ◌∷◌, [], length, take, drop};
 ghost use Rattle.text.specs.Text.{line_length, field_length, number_of, decimal};
 ghost use Rattle.text.specs.Buffers.{Added};
 
@@ -76,6 +76,14 @@ impl<T: Copy> Writer<'_, T> {
         for x in xs {
             self.put(*x);
         }
+    }
+
+    // What has been written.
+    pub fn written(&self) -> &[T]
+        requires { self.now.at ≤ length self.now.out.now }
+        ensures { result.now ≡ take self.now.at self.now.out.now }
+    {
+        &self.out[..self.at]
     }
 }
 

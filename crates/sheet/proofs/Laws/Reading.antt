@@ -6,7 +6,7 @@ use Prim.Native.Nat.{ℕ, suc, ◌+◌, ◌-◌, ◌*◌, ◌≤◌, ◌<◌}
 use mathlib.Core.Path.{◌≡◌, sym, ap, ap₂, ◌∙◌}
 use mathlib.Core.Logic.{⊎_elim}
 use mathlib.Core.List.{List, [], ◌∷◌, ◌++◌, append-nil}
-use mathlib.Core.Bool.{Bool, true, false, ◌&&◌, false≢true}
+use mathlib.Core.Bool.{true, false, ◌&&◌, false≢true}
 use native.Mathlib.Nat.{not-suc-le-zero, le_of_suc-le-suc, zero-mul, suc-mul}
 use native.Mathlib.Omega.{arith}
 use borrow.Author.Tests.{leb-true, eqb-true}
@@ -20,8 +20,9 @@ use Rattle.seq.proofs.Laws.Below.{first_below}
 use Rattle.seq.proofs.Laws.Numbers.{less_or}
 use Rattle.text.specs.Text.{first_line, after_line, all_lines, lines, fields, value}
 use Rattle.sheet.specs.declared.Shape.{Shape}
-use Rattle.sheet.specs.declared.Read.{Read}
-use Rattle.sheet.specs.declared.Read.TheVariants.{Broken, Taken}
+use Rattle.std.specs.Prelude.{Result, Ok, Err}
+use Rattle.sheet.specs.declared.Broken.{Broken}
+use Rattle.sheet.specs.declared.Broken.TheVariants.{TooLong}
 use Rattle.sheet.specs.Table.{Table, header_text, positives, negatives, words_of, header_ok, width, row_ok, line_ok, broken, row_of, cells_of, table_of}
 use Rattle.sheet.specs.Inner.{node_line_ok}
 use Rattle.sheet.specs.Promises.{shape_of, read_lines, read_of, cells_read, rows_read, TableRead}
@@ -57,20 +58,10 @@ unfolding header_ok
 header_at l e = e
 
 -- ---- a text by its outcome
--- The shape of a table, read off the outcome.
-shape : Shape → Read → Shape
-shape d (Broken place) = d
-shape d (Taken t) = t
+clash : (b : Broken) (t : Shape) → ◌≡◌ {A = Result Shape Broken} (Err b) (Ok t) → ⊥
+clash b t q = cc
 
-is-taken : Read → Bool
-is-taken (Broken place) = false
-is-taken (Taken t) = true
-
-clash : (place : ℕ) (t : Shape) → Broken place ≡ Taken t → ⊥
-unfolding is-taken
-clash place t q = false≢true (ap is-taken q)
-
-module _ (s : List ℕ) (t : Shape) (e : read_of s ≡ Taken t) where
+module _ (s : List ℕ) (t : Shape) (e : read_of s ≡ Ok t) where
   -- The header line, the node lines, and how many fields these must have.
   abbrev l : List ℕ
   l = first_line s
@@ -83,9 +74,9 @@ module _ (s : List ℕ) (t : Shape) (e : read_of s ≡ Taken t) where
 
   short : ltb 16384 (length s) ≡ false
   unfolding read_of
-  short = bool_false (ltb 16384 (length s)) (λ q. clash 0 t (rw q at e))
+  short = bool_false (ltb 16384 (length s)) (λ q. clash TooLong t (rw q at e))
 
-  by_lines : read_lines (lines s) ≡ Taken t
+  by_lines : read_lines (lines s) ≡ Ok t
   unfolding read_of
   by_lines = rw short at e
 
@@ -94,8 +85,7 @@ module _ (s : List ℕ) (t : Shape) (e : read_of s ≡ Taken t) where
   whole = ⊎_elim (λ q. absurd (clash _ t (sym (read-broken (lines s) q) ∙ by_lines))) (λ q. q) (less_or (broken (lines s)) (length (lines s)))
 
   is_shape : shape_of (table_of (lines s)) ≡ t
-  unfolding shape
-  is_shape = ap (shape t) (sym (read_taken (lines s) whole) ∙ by_lines)
+  is_shape = let e : ◌≡◌ {A = Result Shape Broken} (Ok (shape_of (table_of (lines s)))) (Ok t) = sym (read_taken (lines s) whole) ∙ by_lines in cc
 
   header : header_ok l ≡ true
   unfolding broken lines first_fail line_ok
@@ -145,9 +135,9 @@ module _ (s : List ℕ) (t : Shape) (e : read_of s ≡ Taken t) where
       lawful = header_at l header
 
 -- ---- no second outcome fits
-pub record SameRead (r q : Read) (a b : List ℕ) : Type 0 where
+pub record SameRead (r q : Result Shape Broken) (a b : List ℕ) : Type 0 where
   pub read : r ≡ q
   pub cells : a ≡ b
 
-pub read-table_unique : (s c : List ℕ) (r q : Read) (a b : List ℕ) → TableRead s c r a → TableRead s c q b → SameRead r q a b
+pub read-table_unique : (s c : List ℕ) (r q : Result Shape Broken) (a b : List ℕ) → TableRead s c r a → TableRead s c q b → SameRead r q a b
 read-table_unique s c r q a b x y = record { read = x.read ∙ sym y.read; cells = x.cells ∙ sym y.cells }

@@ -1,16 +1,15 @@
 -- Laws of the table's definitions. Assumes nothing.
-use Prim.Native.Nat.{ℕ, zero, suc, ◌+◌, ◌*◌, ◌≤◌, ◌<◌}
+use Prim.Native.Nat.{ℕ, zero, suc, ◌+◌, ◌*◌}
 use mathlib.Core.Path.{◌≡◌, refl, sym, ap, ◌∙◌}
 use mathlib.Core.List.{List, [], ◌++◌, append-nil, append_assoc}
 use native.Mathlib.Numerals.{add-one}
 use native.Mathlib.Nat.{zero-mul, suc-mul}
 use native.Mathlib.Omega.{arith}
-use borrow.Author.Tests.{le-leb, lt-leb}
-use lib.Dec.{leb}
 use lib.ListN.{length, length-append}
-use mathlib.Core.Bool.{Bool, false, ◌&&◌}
-use Rattle.seq.proofs.Laws.Bools.{and_both, and_false-left, and_false-right}
 use Rattle.text.specs.Text.{bytes}
+use Rattle.text.specs.Buffers.{Added}
+use Rattle.text.specs.declared.Writer.{Writer}
+use Rattle.text.proofs.Laws.Adding.{added-step}
 use Rattle.sheet.specs.Table.{times, header_text}
 
 -- ---- the header
@@ -35,13 +34,8 @@ pub length-header : (p q : ℕ) → length (header_text p q) ≡ 10 + 4 * (p + q
 unfolding header_text bytes
 length-header p q = simp (length-append, length-times) (omega arith)
 
--- How many words there may be.
-module _ (p q : ℕ) where
-  pub words-none : (b : Bool) → p ≡ 0 → ((leb 1 p && leb (p + q) 8) && b) ≡ false
-  words-none b e = and_false-left _ b (and_false-left (leb 1 p) _ (lt-leb 1 p (omega arith)))
-
-  pub words-many : (b : Bool) → 8 < p + q → ((leb 1 p && leb (p + q) 8) && b) ≡ false
-  words-many b h = and_false-left _ b (and_false-right (leb 1 p) _ (lt-leb (p + q) 8 h))
-
-  pub words_right : (b : Bool) → (p ≡ 0 → ⊥) → p + q ≤ 8 → ((leb 1 p && leb (p + q) 8) && b) ≡ b
-  words_right b h l = ap (λ (t : Bool). t && b) (and_both _ _ (le-leb 1 p (omega arith)) (le-leb (p + q) 8 l))
+-- The header, written piece by piece.
+pub header_built : (p q : ℕ) (w₀ w₁ w₂ w₃ : Writer ℕ) → Added (bytes "parent,tag") w₀ w₁ → Added (times p (bytes ",+,#")) w₁ w₂ → Added (times q (bytes ",-,#")) w₂ w₃ →
+    Added (header_text p q) w₀ w₃
+unfolding header_text
+header_built p q w₀ w₁ w₂ w₃ a b c = added-step _ _ _ w₀ w₁ w₃ a (added-step _ _ _ w₁ w₂ w₃ b c refl) refl

@@ -1,14 +1,17 @@
--- `sheet::header::put_times` meets its contract: glue over Adding.
+-- `sheet::header::put_times` meets its contract.
+use mathlib.Core.Path.{sym, ap}
+use native.Mathlib.Omega.{arith}
+use Prim.Native.Nat.{ℕ}
+use Rattle.text.proofs.Laws.Adding.{added-start, added-step, added_same}
+use Rattle.sheet.specs.Table.{times}
 use Rattle.sheet.proofs.Laws.Table.{times_zero, times_more}
-use Rattle.text.proofs.Laws.Adding.{adding-start, adding-step, adding-end}
 use Rattle.sheet.proofs.header.put_times.Goals as goal
 
-pub loop-i-init : goal.loop-i-init
-loop-i-init c = adding-start _ _ _ _ (times_zero _)
+pub loop-init : goal.loop-init
+loop-init c = added_same _ _ _ _ (added-start _) (sym (times_zero _))
 
-pub loop-i-preserved : goal.loop-i-preserved
-loop-i-preserved c =
-    adding-step _ _ _ _ _ _ _ c.loop-i.invariant _ _ _ c.loop-i-test.true (times_more c.loop-i.i c.args.text.now) c.put_text-next.auto.out c.put_text-next.ensures
+pub loop-preserved : goal.loop-preserved
+loop-preserved c = added-step _ _ _ _ _ _ c.loop.invariant c.put_all.ensures (times_more c.loop.counter c.args.text.now)
 
 pub returns : goal.returns
-returns c = adding-end _ _ _ _ _ _ _ c.loop-i.invariant c.loop-i-test.false
+returns c = added_same _ _ _ _ c.loop.invariant (ap (λ (k : ℕ). times k c.args.text.now) (omega (arith, c.loop-test.false, c.loop.auto.counter-end)))
