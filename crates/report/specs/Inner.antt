@@ -1,9 +1,8 @@
 -- What the functions of this crate promise each other; no public contract cites it. Assumes nothing.
-use Rattle.std.specs.Prelude.{ℕ, ◌≤◌, ◌≡◌, List, length, take}
-use Rattle.index.specs.declared.Reply.{Reply}
-use Rattle.report.specs.Lines.{listed_by}
+--   node_text v   == the node field of a line: empty where there is no node
+use Rattle.std.specs.Prelude.{ℕ, Option, None, Some, List, []}
+use Rattle.text.specs.Text.{decimal}
 
--- The first r of the nodes are those that a search lists.
-pub record Shown (reply : Reply) (nodes : List ℕ) (r : ℕ) : Type 0 where
-  pub within : r ≤ length nodes
-  pub lists : take r nodes ≡ listed_by reply (take reply.total nodes)
+abbrev pub node_text : Option ℕ → List ℕ
+node_text None = []
+node_text (Some v) = decimal v

@@ -1,5 +1,5 @@
 // The output of the table program (01, "The table program"): lines of search name, refusal number, place and node.
-// Each function writes to the front of a lent buffer, behind what is there up to a place, and returns the next place; what does not fit is not written.
+// Each function writes behind what a writer of a lent buffer has written; what does not fit is not written.
 // `put_pair` runs ELCA and SLCA on a lent index and writes their lines, `put_valid` valid SLCA; `put_bare` writes one line without a node.
 #![tactic(auto)]
 
@@ -7,17 +7,18 @@ mod lines;
 
 ghost use Rattle.std.specs.Prelude.{[]};
 ghost use Rattle.index.specs.Promises.{lent};
-ghost use Rattle.text.specs.Buffers.{Adds};
+ghost use Rattle.text.specs.Buffers.{Added};
 ghost use Rattle.report.specs.Lines.{line_text, elca_text, slca_text, pair_text, valid_text};
 
 use index::Reply;
 use lines::{put_answer, put_line};
+use text::Writer;
 
 // One line with an empty node field.
-pub fn put_bare(out: &mut [u8], at: usize, name: &[u8], reply: Reply) -> usize
-    ensures { Adds (line_text name.now reply []) out.old at out.new result }
+pub fn put_bare(out: &mut Writer<u8>, name: &[u8], reply: Reply)
+    ensures { Added (line_text name.now reply []) out.old out.new }
 {
-    put_line(out, at, name, reply)
+    put_line(out, name, reply, None)
 }
 
 // The lines of ELCA.
@@ -28,11 +29,10 @@ fn put_elca(
     ends: &[u32],
     occurrences: &[u32],
     counts: &[u32],
-    output: &mut [u8],
-    at: usize,
-) -> usize
-    ensures { Adds (elca_text (lent parents.now tags.now p 0 ends.now occurrences.now
-        counts.now)) output.old at output.new result }
+    output: &mut Writer<u8>,
+)
+    ensures { Added (elca_text (lent parents.now tags.now p 0 ends.now occurrences.now
+        counts.now)) output.old output.new }
 {
     let mut work = [0u32; 2560];
     let mut out = [0u32; 256];
@@ -49,7 +49,7 @@ fn put_elca(
         &mut out,
         &mut own,
     );
-    put_answer(output, at, b"elca", reply, &out)
+    put_answer(output, b"elca", reply, &out)
 }
 
 // The lines of SLCA.
@@ -60,11 +60,10 @@ fn put_slca(
     ends: &[u32],
     occurrences: &[u32],
     counts: &[u32],
-    output: &mut [u8],
-    at: usize,
-) -> usize
-    ensures { Adds (slca_text (lent parents.now tags.now p 0 ends.now occurrences.now
-        counts.now)) output.old at output.new result }
+    output: &mut Writer<u8>,
+)
+    ensures { Added (slca_text (lent parents.now tags.now p 0 ends.now occurrences.now
+        counts.now)) output.old output.new }
 {
     let mut work = [0u32; 2560];
     let mut out = [0u32; 256];
@@ -79,7 +78,7 @@ fn put_slca(
         &mut work,
         &mut out,
     );
-    put_answer(output, at, b"slca", reply, &out)
+    put_answer(output, b"slca", reply, &out)
 }
 
 // The lines of ELCA and of SLCA, on one index.
@@ -90,13 +89,12 @@ pub fn put_pair(
     ends: &[u32],
     occurrences: &[u32],
     counts: &[u32],
-    output: &mut [u8],
-    at: usize,
-) -> usize
-    ensures { Adds (pair_text (lent parents.now tags.now p 0 ends.now occurrences.now
-        counts.now)) output.old at output.new result }
+    output: &mut Writer<u8>,
+)
+    ensures { Added (pair_text (lent parents.now tags.now p 0 ends.now occurrences.now
+        counts.now)) output.old output.new }
 {
-    let next = put_elca(
+    put_elca(
         parents,
         tags,
         p,
@@ -104,7 +102,6 @@ pub fn put_pair(
         occurrences,
         counts,
         &mut *output,
-        at,
     );
     put_slca(
         parents,
@@ -114,7 +111,6 @@ pub fn put_pair(
         occurrences,
         counts,
         &mut *output,
-        next,
     )
 }
 
@@ -127,11 +123,10 @@ pub fn put_valid(
     ends: &[u32],
     occurrences: &[u32],
     counts: &[u32],
-    output: &mut [u8],
-    at: usize,
-) -> usize
-    ensures { Adds (valid_text (lent parents.now tags.now p q ends.now occurrences.now
-        counts.now)) output.old at output.new result }
+    output: &mut Writer<u8>,
+)
+    ensures { Added (valid_text (lent parents.now tags.now p q ends.now occurrences.now
+        counts.now)) output.old output.new }
 {
     let mut work = [0u32; 2560];
     let mut out = [0u32; 256];
@@ -146,5 +141,5 @@ pub fn put_valid(
         &mut work,
         &mut out,
     );
-    put_answer(output, at, b"valid", reply, &out)
+    put_answer(output, b"valid", reply, &out)
 }

@@ -1,72 +1,54 @@
 // The lines of the output, each ended by CR LF.
-ghost use Rattle.std.specs.Prelude.{[], take};
-ghost use Rattle.text.specs.Text.{decimal};
+ghost use Rattle.std.specs.Prelude.{◌≡◌, take};
+ghost use Rattle.text.specs.Buffers.{Added};
 ghost use Rattle.report.specs.Lines.{reply_text, line_text, answer_text, listed_by};
-ghost use Rattle.text.specs.Buffers.{Adds};
-ghost use Rattle.report.specs.Inner.{Shown};
+ghost use Rattle.report.specs.Inner.{node_text};
 
 use index::Reply;
-use text::{put_byte, put_number, put_text};
+use text::Writer;
 
 // What a line says before its node.
-fn put_reply(out: &mut [u8], at: usize, name: &[u8], reply: Reply) -> usize
-    ensures { Adds (reply_text name.now reply) out.old at out.new result }
+fn put_reply(out: &mut Writer<u8>, name: &[u8], reply: Reply)
+    ensures { Added (reply_text name.now reply) out.old out.new }
 {
-    let mut next = put_text(&mut *out, at, name);
-    next = put_byte(&mut *out, next, 44);
-    next = put_number(&mut *out, next, reply.refusal);
-    next = put_byte(&mut *out, next, 44);
-    next = put_number(&mut *out, next, reply.place);
-    put_byte(&mut *out, next, 44)
+    out.put_all(name);
+    out.put(b',');
+    out.put_number(reply.refusal);
+    out.put(b',');
+    out.put_number(reply.place);
+    out.put(b',');
 }
 
-// A line with an empty node field.
-pub(crate) fn put_line(out: &mut [u8], at: usize, name: &[u8], reply: Reply) -> usize
-    ensures { Adds (line_text name.now reply []) out.old at out.new result }
+// A line, whose node field is empty where there is no node.
+pub(crate) fn put_line(out: &mut Writer<u8>, name: &[u8], reply: Reply, node: Option<u32>)
+    ensures { Added (line_text name.now reply (node_text node)) out.old out.new }
 {
-    let next = put_reply(&mut *out, at, name, reply);
-    put_text(out, next, b"\r\n")
-}
-
-// A line with a node.
-fn put_node(out: &mut [u8], at: usize, name: &[u8], reply: Reply, node: u32) -> usize
-    ensures { Adds (line_text name.now reply (decimal node)) out.old at out.new result }
-{
-    let mut next = put_reply(&mut *out, at, name, reply);
-    next = put_number(&mut *out, next, node);
-    put_text(&mut *out, next, b"\r\n")
-}
-
-// How many of the nodes are listed under a reply: none under a refusal.
-fn shown(reply: Reply, nodes: &[u32]) -> usize
-    ensures { Shown reply nodes.now result }
-{
-    if reply.refusal == 0 {
-        return seq::least(seq::widen(reply.total), nodes.len());
+    put_reply(&mut *out, name, reply);
+    if let Some(v) = node {
+        out.put_number(v);
     }
-    0
+    out.put_all(b"\r\n");
+}
+
+// The nodes that are listed under a reply: none under a refusal.
+fn shown(reply: Reply, nodes: &[u32]) -> &[u32]
+    ensures { result.now ≡ listed_by reply (take reply.total nodes.now) }
+{
+    if reply.refusal != 0 {
+        return &[];
+    }
+    &nodes[..nodes.len().min(reply.total as usize)]
 }
 
 // The lines of a search: one for each node listed, or one with an empty node field where none is.
-pub(crate) fn put_answer(
-    out: &mut [u8],
-    at: usize,
-    name: &[u8],
-    reply: Reply,
-    nodes: &[u32],
-) -> usize
-    ensures { Adds (answer_text name.now reply (listed_by reply (take reply.total nodes.now)))
-        out.old at out.new result }
+pub(crate) fn put_answer(out: &mut Writer<u8>, name: &[u8], reply: Reply, nodes: &[u32])
+    ensures { Added (answer_text name.now reply (listed_by reply (take reply.total nodes.now))) out.old out.new }
 {
-    let m = shown(reply, nodes);
-    if m == 0 {
-        return put_line(&mut *out, at, name, reply);
+    let listed = shown(reply, nodes);
+    if listed.is_empty() {
+        put_line(&mut *out, name, reply, None);
     }
-    let mut next = at;
-    let mut i: usize = 0;
-    while i < m {
-        next = put_node(&mut *out, next, name, reply, nodes[i]);
-        i += 1;
+    for v in listed {
+        put_line(&mut *out, name, reply, Some(*v));
     }
-    next
 }

@@ -1,10 +1,9 @@
 -- `report::put_valid` meets its contract: what the search leaves in out is what its lines list.
 use Rattle.text.specs.Text.{bytes}
-use Rattle.text.proofs.Laws.Buffers.{adds_same}
+use Rattle.text.proofs.Laws.Adding.{added_same}
 use Rattle.report.proofs.Laws.Searches.{valid-text}
 use Rattle.report.proofs.put_valid.Goals as goal
 
 pub returns : goal.returns
 unfolding bytes
-returns c =
-    adds_same _ _ _ _ _ _ (valid-text _ _ _ c.valid-reply.ensures.reply c.valid-reply.ensures.out) c.put_answer.ensures
+returns c = added_same _ _ _ _ c.put_answer.ensures (valid-text _ _ _ c.valid-reply.ensures.reply c.valid-reply.ensures.out)

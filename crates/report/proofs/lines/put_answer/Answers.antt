@@ -1,39 +1,28 @@
--- `report::lines::put_answer` meets its contract: glue over Adding.
-use Prim.Native.Nat.{ℕ}
+-- `report::lines::put_answer` meets its contract.
 use mathlib.Core.Path.{sym, ap, ◌∙◌}
-use lib.ListN.{take}
-use lib.Seq.{length-take-le}
+use mathlib.Core.List.{List, append-nil, ◌++◌}
+use Prim.Native.Nat.{ℕ}
+use lib.Seq.{take_all}
 use Rattle.report.specs.Lines.{node_lines, answer_text}
-use Rattle.text.proofs.Laws.Buffers.{adds_same}
-use Rattle.report.proofs.Laws.Lines.{nodes-none, nodes-more, answer-none, answer-some}
-use Rattle.text.proofs.Laws.Adding.{take_more, adding-start, adding-step, adding-end}
-use native.Mathlib.Omega.{arith}
+use Rattle.report.proofs.Laws.Lines.{nodes-none, nodes-step, alone, alone-none, alone-some, answer-parts}
+use Rattle.text.proofs.Laws.Adding.{added-start, added-step, added_same}
 use Rattle.report.proofs.lines.put_answer.Goals as goal
+use Rattle.report.proofs.lines.put_answer.Goals.{then-is_empty, else-is_empty}
 
-pub returns-then-m-eq0 : goal.returns-then-m-eq0
-returns-then-m-eq0 c =
-    adds_same _ _ _ _ _ _
-    (answer-none _ _ _ (ap (λ (k : ℕ). take k c.args.nodes.now) (sym c.if-m-eq0.true) ∙ c.shown-m.ensures.lists)) c.put_line.ensures
+pub loop-v-init : goal.loop-v-init
+loop-v-init c = rw (nodes-none _ _, append-nil _) (elim c.if-is_empty.branch [
+    then-is_empty w ↦ rw w.out-is (added_same _ _ _ _ w.put_line.ensures (alone-none _ _ _ (sym c.is_empty.ensures ∙ w.if-is_empty.true)))
+    | else-is_empty w ↦ rw w.out-is (added_same _ _ _ _ (added-start _) (alone-some _ _ _ (sym c.is_empty.ensures ∙ w.if-is_empty.false)))
+  ])
 
-pub loop-i-init : goal.loop-i-init
-loop-i-init c = adding-start _ _ _ _ (nodes-none _ _)
-
-pub offset_bounds-nodes-i : goal.offset_bounds-nodes-i
-offset_bounds-nodes-i c = omega (arith, c.shown-m.ensures.within)
-
-pub bounds-nodes-i : goal.bounds-nodes-i
-bounds-nodes-i c = omega (arith, c.shown-m.ensures.within)
-
-pub loop-i-preserved : goal.loop-i-preserved
-loop-i-preserved c =
-    adding-step _ _ _ _ _ _ _ c.loop-i.invariant _ _ _ c.loop-i-test.true
-    (ap (node_lines c.args.name.now c.args.reply)
-    (take_more c.args.nodes.now c.loop-i.i (omega (arith, c.loop-i-test.true, c.shown-m.ensures.within)))
-    ∙ nodes-more _ _ _ _) c.put_node-next.auto.out c.put_node-next.ensures
+pub loop-v-preserved : goal.loop-v-preserved
+loop-v-preserved c =
+    added-step _ _ _ _ _ _ c.loop-v.invariant c.put_line-in-loop-v.ensures
+    (nodes-step c.args.name.now c.args.reply (alone c.args.name.now c.args.reply c.shown-listed.result.now) c.shown-listed.result.now c.loop-v.v-index c.loop-v-test.true)
 
 pub returns : goal.returns
 returns c =
-    adds_same _ _ _ _ _ _
-    (answer-some _ _ _ (omega (arith, length-take-le c.shown-m.result c.args.nodes.now c.shown-m.ensures.within, c.if-m-eq0.false))
-    ∙ ap (answer_text c.args.name.now c.args.reply) c.shown-m.ensures.lists)
-    (adding-end _ _ _ _ _ _ _ c.loop-i.invariant c.loop-i-test.false)
+    added_same _ _ _ _ c.loop-v.invariant
+    (ap (λ (t : List ℕ). alone c.args.name.now c.args.reply c.shown-listed.result.now ++ node_lines c.args.name.now c.args.reply t)
+    (take_all _ c.shown-listed.result.now c.loop-v-test.false)
+    ∙ answer-parts _ _ _ ∙ ap (answer_text c.args.name.now c.args.reply) c.shown-listed.ensures)

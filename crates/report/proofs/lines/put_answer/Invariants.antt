@@ -1,12 +1,10 @@
--- `report::lines::put_answer` meets its contract: glue over Adding.
-use Prim.Native.Nat.{◌-◌}
+-- `report::lines::put_answer` meets its contract.
 use lib.ListN.{take}
+use mathlib.Core.List.{◌++◌}
 use Rattle.report.specs.Lines.{node_lines}
-use Rattle.text.proofs.Laws.Adding.{Adding}
+use Rattle.report.proofs.Laws.Lines.{alone}
+use Rattle.text.specs.Buffers.{Added}
 use Rattle.report.proofs.lines.put_answer.Given as goal
 
-abbrev pub invariant-loop-i : goal.invariant-loop-i
-invariant-loop-i l = Adding (λ j. node_lines l.name l.reply (take j l.nodes)) l.m l.initial.out l.at l.out l.next l.i
-
-abbrev pub decreases-loop-i : goal.decreases-loop-i
-decreases-loop-i l = l.m - l.i
+abbrev pub invariant-loop-v : goal.invariant-loop-v
+invariant-loop-v l = Added (alone l.name l.reply l.listed ++ node_lines l.name l.reply (take l.v-index l.listed)) l.fn.out l.out

@@ -1,13 +1,13 @@
 -- `report::lines::put_reply` meets its contract: one addition after the other.
+use mathlib.Core.Path.{refl}
 use Rattle.report.specs.Lines.{reply_text}
-use Rattle.text.proofs.Laws.Buffers.{adds-append}
+use Rattle.text.proofs.Laws.Adding.{added-step}
 use Rattle.report.proofs.lines.put_reply.Goals as goal
 
 pub returns : goal.returns
 unfolding reply_text
 returns c =
-    adds-append _ _ _ _ _ _ _ _ c.put_text-next.ensures
-    (adds-append _ _ _ _ _ _ _ _ c.put_byte-next.ensures
-    (adds-append _ _ _ _ _ _ _ _ c.put_number-next.ensures
-    (adds-append _ _ _ _ _ _ _ _ c.put_byte-next-2.ensures
-    (adds-append _ _ _ _ _ _ _ _ c.put_number-next-2.ensures c.put_byte.ensures))))
+    added-step _ _ _ _ _ _ c.put_all.ensures
+    (added-step _ _ _ _ _ _ c.put.ensures
+    (added-step _ _ _ _ _ _ c.put_number.ensures
+    (added-step _ _ _ _ _ _ c.put-2.ensures (added-step _ _ _ _ _ _ c.put_number-2.ensures c.put-3.ensures refl) refl) refl) refl) refl
