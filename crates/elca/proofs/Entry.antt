@@ -12,15 +12,17 @@ use lib.Seq.{take_at, take-append-le}
 use Rattle.seq.specs.Below.{listed, gather, tabulate}
 use Rattle.seq.specs.Memory.{zeroed}
 use Rattle.seq.proofs.Laws.Below.{every_ext}
+use Rattle.seq.proofs.Laws.Lists.{tally_le}
 use Rattle.seq.proofs.Laws.Sums.{sum_ext}
 use Rattle.seq.proofs.Laws.Gather.{length-tabulate, length-gather}
-use Rattle.tree.specs.Tree.{child}
+use Rattle.tree.specs.Tree.{child, under}
 use Rattle.tree.proofs.Laws.Under.{parents-before}
 use Rattle.index.specs.declared.Reply.{Reply}
-use Rattle.index.specs.Index.{Index, nodes, words, wanted}
+use Rattle.index.specs.Index.{Index, nodes, words, wanted, word_list, count_under}
 use Rattle.index.specs.Replies.{accepted, SIZE, ROOM, refused, totalled, room, work_after, kept_or}
 use Rattle.index.specs.Plain.{Sized, Right}
 use Rattle.index.specs.Promises.{Checked}
+use Rattle.index.proofs.Laws.Lists.{list_le}
 use Rattle.index.proofs.Laws.Sizes.{sized-yes}
 use Rattle.index.proofs.Laws.Replies.{checked-size, checked_refused, checked-accepted, negative-size, none-checked, none-work, work-sized, work-kept, work-length, kept-refused}
 use Rattle.index.proofs.Acceptance.{checked-right}
@@ -86,7 +88,7 @@ module _ (I : Index) (w o s : List ℕ) where
         refused-keeps r
         (none-checked I z (length w) _ ∙ checked_refused I w _ (λ q. ne (ap (λ (x : Reply). x.refusal) c.reply ∙ q)) ∙ sym c.reply) ne w₁ (c.work ∙ sym (none-work I z w))
 
-    module _ (e : r.refusal ≡ accepted) (u : (i : ℕ) → get_or I.counts i 0 < 2 ^ 32) where
+    module _ (e : r.refusal ≡ accepted) where
       abbrev k : ℕ
       k = I.positive
 
@@ -134,6 +136,13 @@ module _ (I : Index) (w o s : List ℕ) where
           parts : ◌≡◌ {A = List ℕ} (replicate (room I) 0) (replicate used 0 ++ replicate (room I - used) 0)
           parts = sym (replicate-append-replicate used (room I - used) 0 ∙ ap (λ (x : ℕ). replicate x 0) whole)
 
+      -- A word stands at a node once at most, so its counts are small.
+      count_small : (v j : ℕ) → v < nodes I → j < k → get_or I.counts (j * nodes I + v) 0 ≤ nodes I
+      unfolding count_under
+      count_small v j a b =
+          let l : j < length I.ends = omega (arith, some) in
+          omega (arith, right.counts j v l a, tally_le (under I.parents v) (word_list I.ends I.occurrences j), list_le (nodes I) (word_list I.ends I.occurrences j) (right.lists j l).list)
+
       pub search-pre : SearchPre I.parents I.counts k (take used w₁)
       search-pre = record {
         nodes = size.some_nodes;
@@ -142,7 +151,7 @@ module _ (I : Index) (w o s : List ℕ) where
         counted = size.counted ∙ ap (λ (x : ℕ). x * nodes I) words_are;
         zeros = zeros;
         down = parents-before I.parents (nodes I) right.tree.preorder;
-        fits = λ v j a b. omega (arith, children-below I right some v j a (omega arith), u (j * nodes I + v));
+        fits = λ v j a b. omega (arith, children-below I right some v j a (omega arith), count_small v j a b, size.few_nodes);
         below = λ v j a b. held_fits v j a (omega arith);
       }
         where

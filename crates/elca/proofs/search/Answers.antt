@@ -9,10 +9,10 @@ pub flag_above-requires : goal.flag_above-requires
 flag_above-requires c =
     above-pre _ _ _ _ c.requires _ c.flag_full.ensures _ c.take_off.ensures
 
-pub put-r-requires : goal.put-r-requires
-put-r-requires c =
+pub put-answer-requires : goal.put-answer-requires
+put-answer-requires c =
     put-pre _ _ _ _ c.requires _ c.flag_full.ensures _ c.take_off.ensures _ c.flag_above.ensures
 
 pub returns : goal.returns
 returns c =
-    found _ _ _ _ c.requires _ c.flag_full.ensures _ c.take_off.ensures _ c.flag_above.ensures _ _ _ _ _ _ c.put-r.ensures c.clear.ensures
+    found _ _ _ _ c.requires _ c.flag_full.ensures _ c.take_off.ensures _ c.flag_above.ensures _ _ _ _ _ _ c.put-answer.ensures c.clear.ensures
