@@ -1,11 +1,17 @@
-use Rattle.seq.proofs.Zeroing.{zeroing_start, zeroing_step, zeroing_end}
+-- `seq::clear` meets its contract: glue over the laws of `zeroed`.
+use mathlib.Core.Path.{sym, ap, ◌∙◌}
+use mathlib.Core.List.{List}
+use lib.ListN.{set}
+use Prim.Native.Nat.{ℕ}
+use native.Mathlib.Omega.{arith}
+use Rattle.seq.proofs.Laws.Memory.{zeroed-zero, zeroed-suc, zeroed-all}
 use Rattle.seq.proofs.clear.Goals as goal
 
-pub loop-i-init : goal.loop-i-init
-loop-i-init c = zeroing_start _
+pub loop-x-init : goal.loop-x-init
+loop-x-init c = sym (zeroed-zero _)
 
-pub loop-i-preserved : goal.loop-i-preserved
-loop-i-preserved c = zeroing_step _ _ _ c.loop-i.invariant c.loop-i-test.true
+pub loop-x-preserved : goal.loop-x-preserved
+loop-x-preserved c = ap (λ (t : List ℕ). set t c.loop-x.x-index 0) c.loop-x.invariant ∙ zeroed-suc _ _ c.loop-x-test.true
 
 pub returns : goal.returns
-returns c = zeroing_end _ _ _ c.loop-i.invariant c.loop-i-test.false
+returns c = c.loop-x.invariant ∙ zeroed-all _ _ (omega arith)

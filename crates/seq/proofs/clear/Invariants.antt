@@ -1,10 +1,7 @@
--- Before entry i is reached, the first i entries are 0 and the rest is as it was.
-use Rattle.std.proofs.Common.{length, ◌-◌}
-use Rattle.seq.proofs.Zeroing.{Zeroing}
+-- Before an entry is reached, those before it are 0 and the rest is as it was.
+use mathlib.Core.Path.{◌≡◌}
+use Rattle.seq.specs.Memory.{zeroed}
 use Rattle.seq.proofs.clear.Given as goal
 
-abbrev pub invariant-loop-i : goal.invariant-loop-i
-invariant-loop-i l = Zeroing l.initial.part l.part l.i
-
-abbrev pub decreases-loop-i : goal.decreases-loop-i
-decreases-loop-i l = length l.initial.part - l.i
+abbrev pub invariant-loop-x : goal.invariant-loop-x
+invariant-loop-x l = l.part ≡ zeroed l.x-index l.initial.part
