@@ -13,7 +13,7 @@ use Rattle.seq.specs.Below.{every_below}
 use Rattle.seq.proofs.Laws.Below.{every_ext}
 use Rattle.index.specs.Inner.{cell}
 use Rattle.elca.specs.Inner.Rows.{flag_at, above_held, SumsAndFlags}
-use Rattle.elca.specs.Inner.Steps.{Grid, NodePre}
+use Rattle.elca.specs.Inner.Steps.{Grid}
 use Rattle.elca.proofs.Laws.{flag_in_lem, cell-keeps}
 
 -- ---- one node
@@ -40,9 +40,6 @@ flagging-start n k cs w = record {
 module _ (n k : ℕ) (cs w₀ w : List ℕ) (v : ℕ) (g₀ : Grid n k cs w₀) (s : Flagging n k cs w₀ w v) (l : v < n) where
   grid : Grid n k cs w
   grid = record { counted = g₀.counted; long = s.long ∙ g₀.long; small = g₀.small }
-
-  pub node-pre : NodePre n k v cs w
-  node-pre = record { grid = grid; node = l }
 
   pub flag-place : n * k + v < length w
   flag-place = flag_in_lem n k cs w grid v l

@@ -113,9 +113,6 @@ module _ (p cs : List ℕ) (k : ℕ) (w₀ w : List ℕ) (c : ℕ) (pre : TakeOf
   grid₂ : Grid (length p) k cs w
   grid₂ = record { counted = pre.grid.counted; long = s.rows.long; small = pre.grid.small }
 
-  pub take-flag : length p * k + c < length w
-  take-flag = omega (arith, s.rows.long)
-
   up_in : parent p c < length p
   up_in = omega (arith, parent-less p (length p) pre.down c s.past l)
 

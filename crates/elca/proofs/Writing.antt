@@ -1,7 +1,7 @@
 -- Writing own counts: what the loops know, and how a turn keeps it. Assumes nothing.
 --   Writing   the loop over the nodes; the next row of own begins at `at`
 -- Letters: cs counts, w work, s₀ own as lent, s as it is now; n nodes, k words; v node, j word.
-use Prim.Native.Nat.{ℕ, zero-le, ◌+◌, ◌-◌, ◌*◌, ◌≤◌, ◌<◌}
+use Prim.Native.Nat.{ℕ, zero-le, ◌+◌, ◌-◌, ◌≤◌, ◌<◌}
 use mathlib.Core.Path.{◌≡◌, refl, sym, ap, ap₂, ◌∙◌}
 use mathlib.Core.List.{List, ◌++◌, append_assoc}
 use native.Mathlib.Nat.{le_antisymm}
@@ -58,9 +58,6 @@ over-part new x old l =
     ∙ sym (append_assoc new x (drop (length (new ++ x)) old) ∙ ap (λ (n : ℕ). new ++ (x ++ drop n old)) (length-append new x))
 
 module _ (n k : ℕ) (cs w s₀ s : List ℕ) (v at : ℕ) (pre : OwnPre n k cs w s₀) (t : Writing n k cs w s₀ s v at) (l : v < n) where
-  pub write-flag : n * k + v < length w
-  write-flag = omega (arith, pre.grid.long)
-
   pub writing_no : (flag_at n k w v ≡ 1 → ⊥) → Writing n k cs w s₀ s (v + 1) at
   writing_no ne = record {
     within = omega arith;

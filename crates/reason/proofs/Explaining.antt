@@ -1,7 +1,7 @@
 -- From the index check to the search for a reason and back: the outcome of a call in each case. Assumes nothing.
--- Letters: I index, v node, w what is lent as work; r the check's reply, w₁ work after it; u the node as the code has it, e explanation.
+-- Letters: I index, v node, w what is lent as work; r the check's reply, w₁ work after it; e explanation.
 use Prim.Native.Nat.{ℕ, ◌*◌, ◌≤◌, ◌<◌}
-use mathlib.Core.Path.{◌≡◌, sym, ap, ap₂, ◌∙◌}
+use mathlib.Core.Path.{◌≡◌, sym, ap, ◌∙◌}
 use mathlib.Core.List.{List, ◌++◌}
 use mathlib.Core.Bool.{true, false, cond}
 use native.Mathlib.Nat.{add-mul}
@@ -24,7 +24,7 @@ use Rattle.reason.specs.declared.Explanation.{Explanation}
 use Rattle.reason.specs.declared.finding.Why.{Why}
 use Rattle.reason.specs.Reasons.{told, reason_of, lowest_owns}
 use Rattle.reason.specs.Promises.{NODE, reason_reply, explains, told_after, lowest_after, Explained}
-use Rattle.reason.specs.Inner.{LookPre, Looked, with_reply}
+use Rattle.reason.specs.Inner.{LookPre, Looked, with_reply, with_why}
 
 module _ (I : Index) (v : ℕ) (w : List ℕ) where
   -- A refused call tells what is fixed.
@@ -57,7 +57,7 @@ module _ (I : Index) (v : ℕ) (w : List ℕ) where
     explain-refused ne =
         refuses r (none-checked I z (length w) _ ∙ checked_refused I w _ (λ q. ne (ap (λ (x : Reply). x.refusal) c.reply ∙ q)) ∙ sym c.reply) ne w₁ work-is
 
-    module _ (a : r.refusal ≡ accepted) (u : ℕ) (eu : u ≡ v) where
+    module _ (a : r.refusal ≡ accepted) where
       size : Sized 8 I (length w)
       size = (checked-right I w r w₁ c a).0
 
@@ -69,10 +69,10 @@ module _ (I : Index) (v : ℕ) (w : List ℕ) where
       unfolding reason_reply
       after_check = none-checked I z (length w) _ ∙ checked-accepted I w _ (ap (λ (x : Reply). x.refusal) (sym c.reply) ∙ a)
 
-      pub explain-node : nodes I ≤ u → (e : Explanation) → e ≡ with_reply (refused NODE 0) (NotFull 0) → Explained I v w e w₁
+      pub explain-node : nodes I ≤ v → (e : Explanation) → e ≡ with_reply (refused NODE 0) (NotFull 0) → Explained I v w e w₁
       explain-node l = refuses (refused NODE 0) (after_check ∙ cond-false _ (le-ltb v (nodes I) (omega arith)) _ _) (λ q. omega arith) w₁ work-is
 
-      module _ (l : u < nodes I) where
+      module _ (l : v < nodes I) where
         row_room : nodes I ≤ room I
         row_room = omega (arith, add-mul (words I) 2 (nodes I))
 
@@ -91,7 +91,7 @@ module _ (I : Index) (v : ℕ) (w : List ℕ) where
         words_are : length I.ends ≡ I.positive
         words_are = omega (arith, size.ended)
 
-        pub look-pre : LookPre I.parents I.ends I.occurrences I.counts u (take (nodes I) w₁)
+        pub look-pre : LookPre I.parents I.ends I.occurrences I.counts v (take (nodes I) w₁)
         look-pre = record {
           preorder = right.tree.preorder;
           node = l;
@@ -103,12 +103,9 @@ module _ (I : Index) (v : ℕ) (w : List ℕ) where
           zeros = zeros;
         }
 
-        module _ (f : Why) (row : List ℕ) (g : Looked I.parents I.ends I.occurrences u (take (nodes I) w₁) f row) where
+        module _ (f : Why) (row : List ℕ) (g : Looked I.parents I.ends I.occurrences v (take (nodes I) w₁) f row) where
           whole-work : row ++ drop (nodes I) w₁ ≡ work_after 0 I w
           whole-work = ap (λ (t : List ℕ). t ++ drop (nodes I) w₁) g.row ∙ take-append-drop (nodes I) w₁ ∙ work-is
-
-          pub explain-length : length (row ++ drop (nodes I) w₁) ≡ length w
-          explain-length = ap length whole-work ∙ work-length 0 I w
 
           accepts : reason_reply I v w ≡ totalled accepted 0
           accepts = after_check ∙ cond-true _ (lt-ltb v (nodes I) (omega arith)) _ _
@@ -117,11 +114,15 @@ module _ (I : Index) (v : ℕ) (w : List ℕ) where
           unfolding explains
           yes = eq-eqb (reason_reply I v w).refusal accepted (ap (λ (x : Reply). x.refusal) accepts)
 
-          pub explained : Explained I v w (record { reply = r; reason = f.reason; occurrences = f.occurrences }) (row ++ drop (nodes I) w₁)
+          pub explained : (e : Explanation) → e ≡ with_why r f → Explained I v w e (row ++ drop (nodes I) w₁)
           unfolding told_after lowest_after
-          explained = record {
-            reply = c.reply ∙ right-accepted I w size right ∙ sym accepts;
-            reason = g.reason ∙ ap₂ (λ (k y : ℕ). reason_of I.parents k (wanted I) y) words_are eu ∙ sym (cond-true (explains I v w) yes _ _);
-            occurrences = g.occurrences ∙ ap₂ (λ (k y : ℕ). lowest_owns I.parents k (wanted I) y) words_are eu ∙ sym (cond-true (explains I v w) yes _ _);
+          explained e ee = record {
+            reply = ap (λ (x : Explanation). x.reply) ee ∙ c.reply ∙ right-accepted I w size right ∙ sym accepts;
+            reason =
+                ap (λ (x : Explanation). told x.reason) ee ∙ g.reason ∙ ap (λ (k : ℕ). reason_of I.parents k (wanted I) v) words_are
+                ∙ sym (cond-true (explains I v w) yes _ _);
+            occurrences =
+                ap (λ (x : Explanation). x.occurrences) ee ∙ g.occurrences ∙ ap (λ (k : ℕ). lowest_owns I.parents k (wanted I) v) words_are
+                ∙ sym (cond-true (explains I v w) yes _ _);
             work = whole-work;
           }

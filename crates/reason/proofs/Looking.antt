@@ -6,7 +6,7 @@
 --   looked                  where none is missing
 -- Letters: p parents, occ occurrences, cs counts, fl the row of zeros, fl₁ the flags; v u nodes, x occurrence, j word.
 use Prim.Native.Nat.{ℕ, ◌+◌, ◌-◌, ◌≤◌, ◌<◌}
-use mathlib.Core.Path.{◌≡◌, refl, sym, ap, ap₂, ◌∙◌, subst}
+use mathlib.Core.Path.{◌≡◌, refl, sym, ap, ◌∙◌, subst}
 use mathlib.Core.Logic.{⊎_elim}
 use mathlib.Core.List.{List}
 use mathlib.Core.Bool.{Bool, true, false, not}
@@ -16,15 +16,15 @@ use borrow.Rule.Slice.PartMut.{put_mid, mid_of}
 use lib.Dec.{eqb, ltb, leb}
 use lib.ListN.{length, get_or, drop, replicate, length-replicate, length-drop, get_or-replicate}
 use lib.Seq.{ext_get_or, length-take-le}
+use Rattle.std.specs.Prelude.{Option, Some, None}
 use Rattle.seq.specs.Below.{tabulate}
 use Rattle.seq.specs.Lists.{some_of, first_of, EachBelow}
 use Rattle.seq.specs.Memory.{over}
-use Rattle.seq.proofs.Laws.Bools.{bool_cases, flag-some, cond-true, cond-false}
-use Rattle.seq.proofs.Laws.Below.{first_ext, first_below}
+use Rattle.seq.proofs.Laws.Bools.{flag-some, cond-true, cond-false}
+use Rattle.seq.proofs.Laws.Below.{first_ext}
 use Rattle.seq.proofs.Laws.Numbers.{less_or}
 use Rattle.seq.proofs.Laws.Gather.{length-tabulate, get_d_tabulate, tabulate_ext}
-use Rattle.seq.proofs.Laws.Lists.{some_of-tally, first_of-none, first_of_ext, first_of_any}
-use Rattle.seq.proofs.Laws.Members.{member_below, first_of_member}
+use Rattle.seq.proofs.Laws.Lists.{some_of-tally, some_of_ext, first_of_ext}
 use Rattle.seq.proofs.Laws.Memory.{over-nil}
 use Rattle.seq.proofs.Laws.Parts.{put-long, put-before, put-inside, put-after}
 use Rattle.tree.specs.Tree.{under}
@@ -33,11 +33,12 @@ use Rattle.tree.proofs.Laws.Spans.{last-below, span-start, past-span}
 use Rattle.index.specs.Index.{word_list, count_under}
 use Rattle.index.specs.Plain.{WordKept}
 use Rattle.answers.specs.Answers.{full, own, own_count, elca}
-use Rattle.reason.specs.declared.Reason.TheVariants.{NotFull}
 use Rattle.reason.specs.declared.finding.Why.{Why}
+use Rattle.reason.specs.declared.finding.Why.TheVariants.{NotFull}
 use Rattle.reason.specs.Reasons.{NOT_FULL, NOT_LISTED, naming, missing, unowned, lowest_own}
-use Rattle.reason.specs.Inner.{missing_by, none_missing, own_if, RowsPre, FlagPre, OwnFlagged, lowest_by, lowest_in, unowned_by, stops, FindPre, Finds, LookPre, Looked}
+use Rattle.reason.specs.Inner.{found_below, missing_by, none_missing, own_if, OwnFlagged, flagged, lowest_in, unowned_by, stops, FindPre, Finds, LookPre, Looked}
 use Rattle.reason.proofs.Flagging.{bit}
+use Rattle.reason.proofs.Laws.Counts.{test_none, test_some}
 use Rattle.reason.proofs.Laws.Reasons.{full-missing, missing-elca, reason-missing, elca-unowned, reason-unowned, reason-elca, lowest-some, lowest-none}
 use Rattle.reason.proofs.Laws.Own.{own_if-outside, own_if_ext}
 
@@ -58,26 +59,24 @@ module _ (p ends occ cs : List ℕ) (v : ℕ) (fl : List ℕ) (pre : LookPre p e
   full_by_lem : (u : ℕ) → u < n → none_missing cs n k u ≡ full p k W u
   full_by_lem u l = ap (λ (z : ℕ). not (ltb z k)) (missing-by u l) ∙ sym (full-missing p k W u)
 
-  pub rows-pre : RowsPre cs n k v
-  rows-pre = record { node = pre.node; rows = omega (arith, pre.counted) }
-
   -- ---- a word is missing, or none is
-  module _ (j : ℕ) (e : j ≡ missing_by cs n k v) where
-    pub look-missing : j < k → Looked p ends occ v fl (record { reason = NotFull j; occurrences = replicate 8 0 }) fl
-    look-missing l = record {
-      reason = ap (naming NOT_FULL) (e ∙ missing-by v pre.node) ∙ sym (reason-missing p k W v none);
-      occurrences = sym (lowest-none p k W v (missing-elca p k W v none));
-      row = refl;
-    }
-      where
-        none : full p k W v ≡ false
-        none = sym (full_by_lem v pre.node) ∙ ap not (lt-ltb (missing_by cs n k v) k (omega arith))
+  module _ (r : Option ℕ) (e : r ≡ found_below k (missing_by cs n k v)) where
+    module _ (j : ℕ) (s : r ≡ Some j) where
+      found_one : (ltb (missing_by cs n k v) k ≡ true) × (j ≡ missing_by cs n k v)
+      found_one = test_some (ltb (missing_by cs n k v) k) j (missing_by cs n k v) (sym s ∙ e)
 
-    pub none-missing : k ≤ j → full p k W v ≡ true
-    none-missing l = sym (full_by_lem v pre.node) ∙ ap not (le-ltb (missing_by cs n k v) k (omega arith))
+      pub look-missing : Looked p ends occ v fl (NotFull j) fl
+      look-missing = record {
+        reason = ap (naming NOT_FULL) (found_one.1 ∙ missing-by v pre.node) ∙ sym (reason-missing p k W v none);
+        occurrences = sym (lowest-none p k W v (missing-elca p k W v none));
+        row = refl;
+      }
+        where
+          none : full p k W v ≡ false
+          none = sym (full_by_lem v pre.node) ∙ ap not found_one.0
 
-  pub flag-pre : FlagPre p cs k v fl
-  flag-pre = record { preorder = pre.preorder; node = pre.node; rows = omega (arith, pre.counted); zeros = pre.zeros }
+    pub none-missing : r ≡ None → full p k W v ≡ true
+    none-missing s = sym (full_by_lem v pre.node) ∙ ap not (test_none (ltb (missing_by cs n k v) k) (missing_by cs n k v) (sym s ∙ e))
 
   module _ (f : full p k W v ≡ true) (end : ℕ) (fl₁ : List ℕ) (g : OwnFlagged p cs k v end fl₁) where
     abbrev mine : ℕ → Bool
@@ -94,7 +93,6 @@ module _ (p ends occ cs : List ℕ) (v : ℕ) (fl : List ℕ) (pre : LookPre p e
 
     pub find-pre : FindPre ends occ fl₁
     find-pre = record {
-      few_nodes = omega (arith, flags_long, pre.few_nodes);
       few_words = pre.few_words;
       words = λ j l. subst (λ (z : ℕ). WordKept z ends occ j) (sym flags_long) (pre.words j l);
     }
@@ -102,37 +100,28 @@ module _ (p ends occ cs : List ℕ) (v : ℕ) (fl : List ℕ) (pre : LookPre p e
     below : (j : ℕ) → j < k → EachBelow n (W j)
     below j l = (pre.words j l).list.below
 
-    lowest_by_lem : (j : ℕ) → j < k → lowest_in ends occ fl₁ j ≡ first_of mine n (W j)
-    unfolding lowest_by
-    lowest_by_lem j l =
-        ap (λ (z : ℕ). first_of (λ x. not (eqb (get_or fl₁ x 0) 0)) z (W j)) flags_long
-        ∙ first_of_ext _ mine n n (W j) (below j l) (λ x h. ap (λ (z : ℕ). not (eqb z 0)) (own-by x h) ∙ flag-some (mine x))
+    flagged-by : (x : ℕ) → x < n → flagged fl₁ x ≡ mine x
+    flagged-by x h = ap (λ (z : ℕ). not (eqb z 0)) (own-by x h) ∙ flag-some (mine x)
+
+    lowest_by_lem : (j : ℕ) → j < k → lowest_in ends occ fl₁ j ≡ first_of mine 0 (W j)
+    lowest_by_lem j l = first_of_ext (flagged fl₁) mine n 0 (W j) (below j l) flagged-by
 
     -- A word has an own occurrence where its own count is not 0.
-    has_one_lem : (j : ℕ) → j < k → ltb (first_of mine n (W j)) n ≡ some_of mine (W j)
-    has_one_lem j l =
-        ⊎_elim
-        (λ q. lt-ltb (first_of mine n (W j)) n (member_below n (W j) (below j l) (first_of mine n (W j)) (first_of_member mine n (W j) q)) ∙ sym q)
-        (λ q. le-ltb (first_of mine n (W j)) n (omega (arith, first_of-none mine n (W j) q)) ∙ sym q)
-        (bool_cases (some_of mine (W j)))
-
     counted : (j : ℕ) → some_of mine (W j) ≡ leb 1 (own_count p k W v j)
     unfolding own_count
     counted j = some_of-tally mine (W j)
 
     unowned-by : unowned_by ends occ fl₁ ≡ unowned p k W v
     unfolding unowned_by unowned
-    unowned-by = first_ext k _ _ (λ j l. ap₂ ltb (lowest_by_lem j l) flags_long ∙ has_one_lem j l ∙ counted j)
+    unowned-by = first_ext k _ _ (λ j l. some_of_ext (flagged fl₁) mine n (W j) (below j l) flagged-by ∙ counted j)
 
     stops-is : stops ends occ fl₁ ≡ ltb (unowned p k W v) k
     stops-is = ap (λ (z : ℕ). ltb z k) unowned-by
 
-    -- Where no word lacks an own occurrence, what is found are the lowest.
-    row_is : k ≤ unowned p k W v → tabulate k (lowest_in ends occ fl₁) ≡ tabulate k (lowest_own p k W v)
-    unfolding unowned lowest_own
-    row_is h =
-        tabulate_ext k _ _
-        (λ j l. lowest_by_lem j l ∙ first_of_any mine n 0 (W j) (counted j ∙ first_below k (λ i. leb 1 (own_count p k W v i)) j (omega arith)))
+    -- What is found are the lowest.
+    row_is : tabulate k (lowest_in ends occ fl₁) ≡ tabulate k (lowest_own p k W v)
+    unfolding lowest_own
+    row_is = tabulate_ext k _ _ lowest_by_lem
 
     -- ---- the row is cleared
     pub span_in : (v ≤ end) × (end ≤ length fl₁)
@@ -201,6 +190,6 @@ module _ (p ends occ cs : List ℕ) (v : ℕ) (fl : List ℕ) (pre : LookPre p e
               record {
                 reason = h.reason ∙ cond-false (stops ends occ fl₁) t _ _ ∙ sym (reason-elca p k W v e);
                 occurrences =
-                    h.occurrences ∙ ap (λ (x : List ℕ). over x (replicate 8 0)) (cond-false (stops ends occ fl₁) t _ _ ∙ row_is a) ∙ sym (lowest-some p k W v e);
+                    h.occurrences ∙ ap (λ (x : List ℕ). over x (replicate 8 0)) (cond-false (stops ends occ fl₁) t _ _ ∙ row_is) ∙ sym (lowest-some p k W v e);
                 row = row-cleared;
               }

@@ -1,63 +1,60 @@
 -- The flagged entries of the words' lists: what the loops know, and how a turn keeps it. Assumes nothing.
---   unflagged, lowest_step ..   the loop over one list
+--   lowest_step ..              the loop over one list
 --   Seeking                     the loop over the words
 -- Letters: ends, occ occurrences, fl flags, l list; i place in the list, x entry; j word, low the row of lowest entries, low₀ as it began.
-use Prim.Native.Nat.{ℕ, ◌+◌, ◌-◌, ◌≤◌, ◌<◌}
+use Prim.Native.Nat.{ℕ, suc, ◌+◌, ◌-◌, ◌≤◌, ◌<◌}
 use mathlib.Core.Path.{◌≡◌, refl, sym, ap, ◌∙◌}
-use mathlib.Core.List.{List}
-use mathlib.Core.Bool.{Bool, true, false, not}
+use mathlib.Core.List.{List, [], ◌∷◌}
+use mathlib.Core.Bool.{Bool, true, false, not, cond, ◌||◌}
 use native.Mathlib.Nat.{le_antisymm}
 use native.Mathlib.Numerals.{add-one}
 use native.Mathlib.Omega.{arith}
-use lib.Dec.{eqb, ltb}
 use borrow.Author.Tests.{lt-ltb, le-ltb, eq-eqb, ne_eqb}
-use lib.ListN.{length, get_or, set, take, drop, replicate, get_or-eq_default}
+use lib.ListN.{length, get_or, set, take, drop, replicate, drop_of_length-le}
+use lib.Seq.{drop-cons}
+use Rattle.std.specs.Prelude.{Option, Some, None, find}
 use Rattle.seq.specs.Below.{tabulate}
-use Rattle.seq.specs.Lists.{EachBelow}
+use Rattle.seq.specs.Lists.{some_of, first_of, EachBelow}
 use Rattle.seq.specs.Memory.{over}
 use Rattle.seq.proofs.Laws.Bools.{cond-true, cond-false}
-use Rattle.seq.proofs.Laws.Lists.{first_of-place, get_d_any}
 use Rattle.seq.proofs.Laws.Loops.{Filling, filling_start, filling_step}
 use Rattle.seq.proofs.Laws.Memory.{over-nil}
 use Rattle.seq.proofs.Laws.Scan.{Scan, scan-start, scan_step, scan-fails, scan-end}
-use Rattle.index.specs.Index.{start}
-use Rattle.index.proofs.Laws.Lists.{part-rises, part-within, part-is, part-below}
-use Rattle.reason.specs.declared.Reason.TheVariants.{NotListed, Listed}
+use Rattle.index.specs.Index.{start, word_list}
+use Rattle.index.proofs.Laws.Lists.{part-is, part-below}
+use Rattle.reason.specs.declared.finding.Why.TheVariants.{NotListed, Listed}
 use Rattle.reason.specs.Reasons.{NOT_LISTED, naming}
-use Rattle.reason.specs.Inner.{lowest_by, lowest_in, unowned_by, FindPre, stops, Finds}
+use Rattle.reason.specs.Inner.{flagged, lowest_by, lowest_in, unowned_by, FindPre, stops, Finds}
+use Rattle.reason.proofs.Laws.Counts.{test_none, test_some}
 
 -- ---- one list
--- The entry at place i is not flagged.
-unfoldable pub unflagged : List ℕ → List ℕ → ℕ → Bool
-unflagged fl l i = not (not (eqb (get_or fl (get_or l i 0) 0) 0))
+module _ (fl l : List ℕ) (i : ℕ) (h : i < length l) where
+  -- The entries from place i on, where the one at i is not flagged.
+  pub lowest_step : find (flagged fl) (drop i l) ≡ lowest_by fl l → get_or fl (get_or l i 0) 0 ≡ 0 → find (flagged fl) (drop (i + 1) l) ≡ lowest_by fl l
+  lowest_step s z =
+      rw add-one (sym (rw (drop-cons l i 0 h) (ap (λ (b : Bool). cond b (Some (get_or l i 0)) (find (flagged fl) (drop (suc i) l))) (ap not (eq-eqb (get_or fl (get_or l i 0) 0) 0 z)))) ∙ s)
 
-module _ (fl l : List ℕ) (i x : ℕ) (e : x ≡ get_or l i 0) where
-  pub lowest_step : Scan (length l) (unflagged fl l) i → i < length l → get_or fl x 0 ≡ 0 → Scan (length l) (unflagged fl l) (i + 1)
-  unfolding unflagged
-  lowest_step s h z =
-      scan_step (length l) (unflagged fl l) i s h (ap (λ (b : Bool). not (not b)) (eq-eqb (get_or fl (get_or l i 0) 0) 0 (ap (λ (y : ℕ). get_or fl y 0) (sym e) ∙ z)))
+  pub lowest-here : find (flagged fl) (drop i l) ≡ lowest_by fl l → (get_or fl (get_or l i 0) 0 ≡ 0 → ⊥) → Some (get_or l i 0) ≡ lowest_by fl l
+  lowest-here s ne =
+      sym (rw (drop-cons l i 0 h) (ap (λ (b : Bool). cond b (Some (get_or l i 0)) (find (flagged fl) (drop (suc i) l))) (ap not (ne_eqb (get_or fl (get_or l i 0) 0) 0 ne)))) ∙ s
 
-  pub lowest-here : Scan (length l) (unflagged fl l) i → i < length l → (get_or fl x 0 ≡ 0 → ⊥) → x ≡ lowest_by fl l
-  unfolding unflagged lowest_by
-  lowest-here s h ne =
-      e ∙ get_d_any l i 0 (length fl) h
-      ∙ ap (λ (y : ℕ). get_or l y (length fl)) (scan-fails (length l) (unflagged fl l) i s stops)
-      ∙ sym (first_of-place (λ y. not (eqb (get_or fl y 0) 0)) (length fl) l)
-    where
-      stops : unflagged fl l i ≡ false
-      stops = ap (λ (b : Bool). not (not b)) (ne_eqb (get_or fl (get_or l i 0) 0) 0 (λ z. ne (ap (λ (y : ℕ). get_or fl y 0) e ∙ z)))
+pub lowest-none : (fl l : List ℕ) (i : ℕ) → find (flagged fl) (drop i l) ≡ lowest_by fl l → length l ≤ i → None ≡ lowest_by fl l
+lowest-none fl l i s h = sym (ap (find (flagged fl)) (drop_of_length-le l {i = i} h)) ∙ s
 
-pub lowest-none : (fl l : List ℕ) (i : ℕ) → Scan (length l) (unflagged fl l) i → length l ≤ i → length fl ≡ lowest_by fl l
-unfolding unflagged lowest_by
-lowest-none fl l i s h =
-    sym (get_or-eq_default l (length fl) {n = i} h)
-    ∙ ap (λ (y : ℕ). get_or l y (length fl)) (scan-end (length l) (unflagged fl l) i s h)
-    ∙ sym (first_of-place (λ y. not (eqb (get_or fl y 0) 0)) (length fl) l)
+-- What is found is the first entry that is flagged, where some is.
+find-some : (f : ℕ → Bool) (l : List ℕ) → find f l ≡ cond (some_of f l) (Some (first_of f 0 l)) None
+unfolding some_of first_of
+find-some f [] = refl
+find-some f (x ∷ l) = by_test (f x) (some_of f l) (first_of f 0 l) (find f l) (find-some f l)
+  where
+    by_test : (b c : Bool) (y : ℕ) (r : Option ℕ) → r ≡ cond c (Some y) None → cond b (Some x) r ≡ cond (b || c) (Some (cond b x y)) None
+    by_test true c y r e = refl
+    by_test false c y r e = e
 
 -- ---- the words, one after the other
 -- Word j has a flagged entry.
-unfoldable pub has_one : List ℕ → List ℕ → List ℕ → ℕ → Bool
-has_one ends occ fl j = ltb (lowest_in ends occ fl j) (length fl)
+abbrev pub has_one : List ℕ → List ℕ → List ℕ → ℕ → Bool
+has_one ends occ fl j = some_of (flagged fl) (word_list ends occ j)
 
 -- The words before j have one each, and the row begins with their lowest.
 pub record Seeking (ends occ fl low₀ low : List ℕ) (begin j : ℕ) : Type 0 where
@@ -69,50 +66,48 @@ pub seeking_start : (ends occ fl low₀ : List ℕ) → Seeking ends occ fl low�
 unfolding start
 seeking_start ends occ fl low₀ = record { begins = refl; passed = scan-start (length ends) (has_one ends occ fl); filled = filling_start (lowest_in ends occ fl) low₀ }
 
-module _ (ends occ fl low₀ low : List ℕ) (begin j to : ℕ) (pre : FindPre ends occ fl) (s : Seeking ends occ fl low₀ low begin j) (h : j < length ends) (e : to ≡ get_or ends j 0) where
-  pub list-rises : begin ≤ to
-  list-rises = part-rises (length fl) ends occ j begin to (pre.words j h) s.begins e
-
-  pub list-within : to ≤ length occ
-  list-within = part-within (length fl) ends occ j begin to (pre.words j h) s.begins e
+module _ (ends occ fl low₀ low : List ℕ) (begin j : ℕ) (pre : FindPre ends occ fl) (s : Seeking ends occ fl low₀ low begin j) (h : j < length ends) where
+  -- The word's list ends here.
+  abbrev to : ℕ
+  to = get_or ends j 0
 
   -- The word's list, as the code takes it.
   abbrev part : List ℕ
   part = take (to - begin) (drop begin occ)
 
   pub list-below : EachBelow (length fl) part
-  list-below = part-below (length fl) ends occ j begin to (pre.words j h) s.begins e
+  list-below = part-below (length fl) ends occ j begin to (pre.words j h) s.begins refl
 
-  module _ (x : ℕ) (ex : x ≡ lowest_by fl part) where
-    x-is : x ≡ lowest_in ends occ fl j
-    x-is = ex ∙ ap (lowest_by fl) (sym (part-is (length fl) ends occ j begin to (pre.words j h) s.begins e))
+  module _ (r : Option ℕ) (er : r ≡ lowest_by fl part) where
+    r-is : r ≡ cond (has_one ends occ fl j) (Some (lowest_in ends occ fl j)) None
+    r-is = er ∙ ap (lowest_by fl) (sym (part-is (length fl) ends occ j begin to (pre.words j h) s.begins refl)) ∙ find-some (flagged fl) (word_list ends occ j)
 
     -- The first word without a flagged entry.
-    pub seeking_stops : length fl ≤ x → Finds ends occ fl (record { reason = NotListed j; occurrences = replicate 8 0 })
-    unfolding unowned_by has_one
-    seeking_stops l = record {
+    pub seeking_stops : r ≡ None → Finds ends occ fl (NotListed j)
+    unfolding unowned_by
+    seeking_stops e = record {
       reason = ap (naming NOT_LISTED) first ∙ sym (cond-true (stops ends occ fl) stopped _ _);
       occurrences = sym (ap (λ (t : List ℕ). over t (replicate 8 0)) (cond-true (stops ends occ fl) stopped _ _) ∙ over-nil (replicate 8 0));
     }
       where
         first : j ≡ unowned_by ends occ fl
-        first = scan-fails (length ends) (has_one ends occ fl) j s.passed (le-ltb (lowest_in ends occ fl j) (length fl) (omega (arith, x-is)))
+        first = scan-fails (length ends) (has_one ends occ fl) j s.passed (test_none (has_one ends occ fl j) _ (sym e ∙ r-is))
 
         stopped : stops ends occ fl ≡ true
         stopped = lt-ltb (unowned_by ends occ fl) (length ends) (omega (arith, first))
 
-    pub seeking_step : length low₀ ≡ 8 → x < length fl → Seeking ends occ fl low₀ (set low j x) to (j + 1)
-    unfolding start has_one
-    seeking_step q l = record {
-      begins = rw (add-one j) e;
-      passed = scan_step (length ends) (has_one ends occ fl) j s.passed h (lt-ltb (lowest_in ends occ fl j) (length fl) (omega (arith, x-is)));
-      filled = filling_step (lowest_in ends occ fl) low₀ low j x s.filled (omega (arith, pre.few_words)) x-is;
+    pub seeking_step : (x : ℕ) → r ≡ Some x → length low₀ ≡ 8 → Seeking ends occ fl low₀ (set low j x) to (j + 1)
+    unfolding start
+    seeking_step x e q = record {
+      begins = rw (add-one j) refl;
+      passed = scan_step (length ends) (has_one ends occ fl) j s.passed h (test_some (has_one ends occ fl j) x _ (sym e ∙ r-is)).0;
+      filled = filling_step (lowest_in ends occ fl) low₀ low j x s.filled (omega (arith, pre.few_words)) (test_some (has_one ends occ fl j) x _ (sym e ∙ r-is)).1;
     }
 
 -- Every word has a flagged entry.
 pub seeking_end : (ends occ fl low : List ℕ) (begin j : ℕ) → Seeking ends occ fl (replicate 8 0) low begin j → length ends ≤ j →
-    Finds ends occ fl (record { reason = Listed; occurrences = low })
-unfolding unowned_by has_one
+    Finds ends occ fl (Listed low)
+unfolding unowned_by
 seeking_end ends occ fl low begin j s h = record {
   reason = sym (cond-false (stops ends occ fl) goes _ _);
   occurrences =

@@ -2,29 +2,25 @@
 ghost use Rattle.std.specs.Prelude.{◌≡◌};
 ghost use Rattle.reason.specs.Inner.{lowest_by, FlaggedPre, FindPre, Finds};
 
-use crate::Reason;
-
-// What is found on a checked index: the reason, and where it is `Listed` the lowest own occurrence of each word, else zeros.
+// What is found on a checked index: the reason, and where it is `Listed` the lowest own occurrence of each word, then zeros.
 #[derive(Clone, Copy)]
-pub(crate) struct Why {
-    pub reason: Reason,
-    pub occurrences: [u32; 8],
+pub(crate) enum Why {
+    NotFull(u32),
+    NotListed(u32),
+    Listed([u32; 8]),
 }
 
-// The first entry of a list whose node is flagged; the number of nodes where none is.
-fn first_flagged(list: &[u32], row: &[u32]) -> usize
+// The first entry of a list whose node is flagged.
+fn first_flagged(list: &[u32], row: &[u32]) -> Option<u32>
     requires { FlaggedPre list.now row.now }
     ensures { result ≡ lowest_by row.now list.now }
 {
-    let mut i: usize = 0;
-    while i < list.len() {
-        let x = seq::widen(list[i]);
-        if row[x] != 0 {
-            return x;
+    for x in list {
+        if row[*x as usize] != 0 {
+            return Some(*x);
         }
-        i += 1;
     }
-    row.len()
+    None
 }
 
 // The first flagged entry of each word's list, or the first word whose list has none.
@@ -32,25 +28,15 @@ pub(crate) fn find(ends: &[u32], occurrences: &[u32], row: &[u32]) -> Why
     requires { FindPre ends.now occurrences.now row.now }
     ensures { Finds ends.now occurrences.now row.now result }
 {
-    let n = row.len();
     let mut lowest = [0u32; 8];
     let mut from: usize = 0;
-    let mut j: usize = 0;
-    while j < ends.len() {
-        let to = seq::widen(ends[j]);
-        let x = first_flagged(&occurrences[from..to], row);
-        if n <= x {
-            return Why {
-                reason: Reason::NotListed(j as u32),
-                occurrences: [0; 8],
-            };
-        }
-        lowest[j] = x as u32;
+    for (j, end) in ends.iter().enumerate() {
+        let to = *end as usize;
+        let Some(x) = first_flagged(&occurrences[from..to], row) else {
+            return Why::NotListed(j as u32);
+        };
+        lowest[j] = x;
         from = to;
-        j += 1;
     }
-    Why {
-        reason: Reason::Listed,
-        occurrences: lowest,
-    }
+    Why::Listed(lowest)
 }

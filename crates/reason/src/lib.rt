@@ -8,7 +8,7 @@ mod flags;
 ghost use Rattle.std.specs.Prelude.{◌≡◌};
 ghost use Rattle.index.specs.Promises.{lent};
 ghost use Rattle.reason.specs.Promises.{Explained, numbers_of};
-ghost use Rattle.reason.specs.Inner.{LookPre, Looked, with_reply};
+ghost use Rattle.reason.specs.Inner.{LookPre, Looked, with_why, with_reply};
 
 use finding::Why;
 use index::Reply;
@@ -52,15 +52,27 @@ pub struct Numbers {
     pub occurrences: [u32; 8],
 }
 
+// An explanation of what is found.
+fn explain_why(reply: Reply, why: Why) -> Explanation
+    ensures { result ≡ with_why reply why }
+{
+    let (reason, occurrences) = match why {
+        Why::NotFull(j) => (Reason::NotFull(j), [0; 8]),
+        Why::NotListed(j) => (Reason::NotListed(j), [0; 8]),
+        Why::Listed(lowest) => (Reason::Listed, lowest),
+    };
+    Explanation {
+        reply,
+        reason,
+        occurrences,
+    }
+}
+
 // What a refused call gives.
 fn refused(reply: Reply) -> Explanation
     ensures { result ≡ with_reply reply (Reason.NotFull 0) }
 {
-    Explanation {
-        reply,
-        reason: Reason::NotFull(0),
-        occurrences: [0; 8],
-    }
+    explain_why(reply, Why::NotFull(0))
 }
 
 // The search for the reason on an index that is checked, with a row of zeros for the nodes, which it leaves.
@@ -76,12 +88,8 @@ fn look(
     ensures { Looked parents.now ends.now occurrences.now v row.old result row.new }
 {
     let k = ends.len();
-    let j = flags::first_missing(counts, parents.len(), k, v);
-    if j < k {
-        return Why {
-            reason: Reason::NotFull(j as u32),
-            occurrences: [0; 8],
-        };
+    if let Some(j) = flags::first_missing(counts, parents.len(), k, v) {
+        return Why::NotFull(j as u32);
     }
     let end = flags::flag_own(parents, counts, k, v, &mut *row);
     let found = finding::find(ends, occurrences, &*row);
@@ -121,7 +129,7 @@ pub fn explain(
         return refused(r);
     }
     let n = parents.len();
-    let v = seq::widen(node);
+    let v = node as usize;
     if n <= v {
         return refused(Reply {
             refusal: NODE,
@@ -130,13 +138,7 @@ pub fn explain(
         });
     }
     let found = look(parents, ends, occurrences, counts, v, &mut work[..n]);
-    let reason = found.reason;
-    let lowest = found.occurrences;
-    Explanation {
-        reply: r,
-        reason,
-        occurrences: lowest,
-    }
+    explain_why(r, found)
 }
 
 // An explanation in numbers: the case's number and its word, 0 where it names none; both 0 under a refusal.

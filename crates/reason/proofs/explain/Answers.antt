@@ -13,19 +13,19 @@ returns-then-r-ne-ACCEPTED c = explain-refused _ _ _ c.if-q-ne0.false _ _ c.chec
 
 pub returns-then-n-v : goal.returns-then-n-v
 returns-then-n-v c =
-    explain-node _ _ _ c.if-q-ne0.false _ _ c.check-r.ensures c.if-r-ne-ACCEPTED.false _ c.widen-v.ensures c.if-n-v.true _ c.refused-then-n-v.ensures
+    explain-node _ _ _ c.if-q-ne0.false _ _ c.check-r.ensures c.if-r-ne-ACCEPTED.false c.if-n-v.true _ c.refused-then-n-v.ensures
 
 pub slice_bounds-look-end : goal.slice_bounds-look-end
 slice_bounds-look-end c =
-    row_in _ _ _ c.if-q-ne0.false _ _ c.check-r.ensures c.if-r-ne-ACCEPTED.false _ c.widen-v.ensures c.if-n-v.false
+    row_in _ _ _ c.if-q-ne0.false _ _ c.check-r.ensures c.if-r-ne-ACCEPTED.false c.if-n-v.false
 
 pub slice_bounds-look-end-2 : goal.slice_bounds-look-end-2
 slice_bounds-look-end-2 c = sym (length-take-le _ _ (slice_bounds-look-end (goal.at.slice_bounds-look-end-2 c).Else-n-v))
 
 pub look-found-requires : goal.look-found-requires
 look-found-requires c =
-    look-pre _ _ _ c.if-q-ne0.false _ _ c.check-r.ensures c.if-r-ne-ACCEPTED.false _ c.widen-v.ensures c.if-n-v.false
+    look-pre _ _ _ c.if-q-ne0.false _ _ c.check-r.ensures c.if-r-ne-ACCEPTED.false c.if-n-v.false
 
 pub returns : goal.returns
 returns c =
-    explained _ _ _ c.if-q-ne0.false _ _ c.check-r.ensures c.if-r-ne-ACCEPTED.false _ c.widen-v.ensures c.if-n-v.false _ _ c.look-found.ensures
+    explained _ _ _ c.if-q-ne0.false _ _ c.check-r.ensures c.if-r-ne-ACCEPTED.false c.if-n-v.false _ _ c.look-found.ensures _ c.explain_why.ensures

@@ -1,11 +1,6 @@
 -- `reason::finding::find` meets its contract: glue over Lowest.
-use Prim.Native.Nat.{◌-◌}
-use lib.ListN.{length}
 use Rattle.reason.proofs.Lowest.{Seeking}
 use Rattle.reason.proofs.finding.find.Given as goal
 
 abbrev pub invariant-loop-j : goal.invariant-loop-j
 invariant-loop-j l = Seeking l.ends l.occurrences l.row l.initial.lowest l.lowest l.from l.j
-
-abbrev pub decreases-loop-j : goal.decreases-loop-j
-decreases-loop-j l = length l.ends - l.j

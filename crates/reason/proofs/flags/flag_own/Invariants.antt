@@ -1,11 +1,7 @@
 -- `reason::flags::flag_own` meets its contract: glue over Flagging.
-use Prim.Native.Nat.{◌-◌}
 use Rattle.reason.specs.Inner.{none_missing}
 use Rattle.reason.proofs.Flagging.{Flagging}
 use Rattle.reason.proofs.flags.flag_own.Given as goal
 
 abbrev pub invariant-loop-u : goal.invariant-loop-u
 invariant-loop-u l = Flagging l.parents (none_missing l.counts l.n l.k) l.v l.row l.u
-
-abbrev pub decreases-loop-u : goal.decreases-loop-u
-decreases-loop-u l = l.n - l.u
