@@ -1,5 +1,5 @@
 -- Laws of the flags of types that repeat, for callers. Assumes nothing.
---   repeat_many ..    rows stay as lent where they do not fit
+--   repeat_kept       rows stay as lent where they do not fit
 --   repeat_fits       when they fit
 --   repeat_fit        where they fit, the flags and two rows of zeros stand over their front
 --   repeat_unique     no second outcome fits the contract
@@ -9,13 +9,12 @@ use mathlib.Core.Path.{◌≡◌, sym, ap₂, ◌∙◌}
 use mathlib.Core.List.{List, [], ◌++◌}
 use mathlib.Core.Bool.{Bool, true, false}
 use native.Mathlib.Omega.{arith}
-use borrow.Author.Tests.{le-leb, lt-leb, eq-eqb, ne_eqb}
-use lib.Dec.{eqb, leb}
+use borrow.Author.Tests.{le-leb, eq-eqb}
 use lib.ListN.{length, take, drop, replicate, length-append, length-replicate, drop_of_length-le}
 use lib.Seq.{length-take-le}
 use Rattle.seq.specs.Below.{tabulate}
 use Rattle.seq.specs.Memory.{over}
-use Rattle.seq.proofs.Laws.Bools.{and_both, and_false-left, and_false-right}
+use Rattle.seq.proofs.Laws.Bools.{and_both}
 use Rattle.seq.proofs.Laws.Gather.{length-tabulate}
 use Rattle.tree.specs.Rules.{tree_bad}
 use Rattle.tree.proofs.Laws.Rules.{lawful-of}
@@ -34,38 +33,19 @@ repeat_fits p t w few tagged room good =
     (and_both _ _ (eq-eqb (length t) (length p) tagged) (and_both _ _ (le-leb (length p * 3) w room) (eq-eqb (tree_bad p t) (length p) good)))
 
 module _ (p t w : List ℕ) where
-  kept : fits_types p t (length w) ≡ false → RepeatedFlagged p t w false w
+  pub repeat_kept : fits_types p t (length w) ≡ false → RepeatedFlagged p t w false w
   unfolding repeat_rows
-  kept e = record { fits = sym e; rows = rw e }
-
-  pub repeat_many : 65536 < length p → RepeatedFlagged p t w false w
-  unfolding fits_types
-  repeat_many h = kept (and_false-left _ _ (lt-leb (length p) 65536 h))
-
-  pub repeat_untagged : (length t ≡ length p → ⊥) → RepeatedFlagged p t w false w
-  unfolding fits_types
-  repeat_untagged h = kept (and_false-right (leb (length p) 65536) _ (and_false-left _ _ (ne_eqb (length t) (length p) h)))
-
-  pub repeat_short : length w < length p * 3 → RepeatedFlagged p t w false w
-  unfolding fits_types
-  repeat_short h =
-      kept (and_false-right (leb (length p) 65536) _ (and_false-right (eqb (length t) (length p)) _ (and_false-left _ _ (lt-leb (length p * 3) (length w) h))))
+  repeat_kept e = record { fits = sym e; rows = rw e }
 
   -- r is what the tree check says, as the code has it.
   module _ (r : ℕ) (er : r ≡ tree_bad p t) where
-    pub repeat_bad : (r ≡ length p → ⊥) → RepeatedFlagged p t w false w
-    unfolding fits_types
-    repeat_bad h =
-        kept (and_false-right (leb (length p) 65536) _ (and_false-right (eqb (length t) (length p)) _
-        (and_false-right (leb (length p * 3) (length w)) _ (ne_eqb (tree_bad p t) (length p) (λ q. h (er ∙ q))))))
-
     module _ (few : length p ≤ 65536) (tagged : length t ≡ length p) (room : length p * 3 ≤ length w) (good : r ≡ length p) where
       fits : fits_types p t (length w) ≡ true
       fits = repeat_fits p t (length w) few tagged room (sym er ∙ good)
 
-      pub repeat_pre : (length p ≡ 0 → ⊥) → MakePre p t (take (length p * 3) w)
-      repeat_pre ne = record {
-        some = omega arith;
+      pub repeat_pre : 0 < length p → MakePre p t (take (length p * 3) w)
+      repeat_pre some = record {
+        some = some;
         few = few;
         tagged = tagged;
         tree = lawful-of p t (omega arith);
@@ -77,7 +57,7 @@ module _ (p t w : List ℕ) where
       repeat_made a e = record { fits = sym fits; rows = rw fits (ap₂ (λ (x : List ℕ) (z : ℕ). x ++ drop z w) e (sym (length-flag_rows p t))) }
 
       -- With no node there is nothing to write.
-      pub repeat_empty : length p ≡ 0 → RepeatedFlagged p t w true w
+      pub repeat_empty : length p ≤ 0 → RepeatedFlagged p t w true w
       unfolding repeat_rows over
       repeat_empty z = record { fits = sym fits; rows = rw fits (sym (ap₂ (λ (x : List ℕ) (y : ℕ). x ++ drop y w) none (length-flag_rows p t ∙ zero-rows))) }
         where

@@ -15,6 +15,5 @@ mod Nearby
 mod Taking
 mod Turns
 mod Ending
-mod Noting
 mod Spreading
 mod Making

@@ -20,7 +20,7 @@ use Rattle.seq.proofs.Laws.Parts.{put-long, put-before, put-inside, put-after}
 use Rattle.tree.specs.Rules.{text}
 use Rattle.tree.proofs.Laws.Under.{parents-before}
 use Rattle.types.specs.Repeated.{repeat_flag, flag_rows}
-use Rattle.types.specs.Inner.Order.{tag, entry, Before, ListPre, Listed, TagsPre, TagsSorted, LevelPassPre, Sorted}
+use Rattle.types.specs.Inner.Order.{tag, entry, Before, Listed, TagsPre, Sorted}
 use Rattle.types.specs.Inner.Numbers.{type_number, number_in, flag_in, NumberPre, Numbered, SpreadPre, Spread, MakePre}
 use Rattle.types.proofs.Orders.{order-map}
 use Rattle.types.proofs.Numbers.{number_le, number-root, repeats-root}
@@ -34,13 +34,6 @@ module _ (p t w : List ℕ) (pre : MakePre p t w) where
 
   width : n * 2 - n ≡ n
   width = omega arith
-
-  pub make_list-pre : ListPre t (take (n * 2 - n) (drop n w))
-  make_list-pre = record {
-    some = omega (arith, pre.some, pre.tagged);
-    few = omega (arith, pre.few, pre.tagged);
-    long = length-take-le (n * 2 - n) (drop n w) (omega (arith, length-drop n w, pre.long)) ∙ width ∙ sym pre.tagged;
-  }
 
   -- The elements are listed in the second row.
   module _ (a₁ : List ℕ) (m : ℕ) (s : Listed t m a₁) where
@@ -67,14 +60,8 @@ module _ (p t w : List ℕ) (pre : MakePre p t w) where
       order = order-map t (λ u v. u < v) (λ u v. u < v) m 0 (length t) a₁ w₁ listed (λ u v x y l. l) s.order;
     }
 
-    pub make_levels-pre : (r : ℕ) (w₂ : List ℕ) → TagsSorted t m r w₂ → LevelPassPre p t m r w₂
-    make_levels-pre r w₂ o = record { some = pre.some; few = pre.few; tagged = pre.tagged; tree = pre.tree; fewer = omega (arith, s.few); sorted = o }
-
     -- They are put in order.
     module _ (r : ℕ) (w₂ : List ℕ) (o : Sorted p t m r w₂) where
-      pub make_r : r ≤ n * 3
-      make_r = ⊎_elim (λ (q : r ≡ n). omega arith) (λ (q : r ≡ n * 2). omega arith) o.half
-
       abbrev last : ℕ
       last = n * 3 - r
 
@@ -83,9 +70,6 @@ module _ (p t w : List ℕ) (pre : MakePre p t w) where
 
       pub make_stop : last + n ≤ length w₂
       make_stop = ⊎_elim (λ (q : r ≡ n). omega (arith, o.long)) (λ (q : r ≡ n * 2). omega (arith, o.long)) o.half
-
-      pub make_few : last + n ≤ 196608
-      make_few = omega (arith, make_stop, o.long, pre.few)
 
       -- The other row is cleared, and the root's number is 0.
       module _ (a₃ : List ℕ) (e₃ : a₃ ≡ replicate (length (take (last + n - last) (drop last w₂))) 0) where

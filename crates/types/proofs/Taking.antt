@@ -114,9 +114,6 @@ module _ (p t : List ℕ) (m at last : ℕ) (w₀ : List ℕ) (pre : NumberPre p
 
   -- v is the node at hand, as the code has it.
   module _ (w : List ℕ) (i : ℕ) (s : Taking p t m at last w₀ w i) (h : i < m) (v : ℕ) (ev : v ≡ entry w at i) where
-    pub take-from : at + i < length w
-    take-from = omega (arith, s.long, pre.here, pre.fewer)
-
     is-here : v ≡ o i
     is-here = ev ∙ s.source i h
 

@@ -33,22 +33,11 @@ pub fn flag_repeated(parents: &[u32], tags: &[u32], rows: &mut [u32]) -> bool
     ensures { RepeatedFlagged parents.now tags.now rows.old result rows.new }
 {
     let n = parents.len();
-    if 65536 < n {
+    if n > 65536 || tags.len() != n || rows.len() < n * 3 || tree::tree_bad(parents, tags) != n {
         return false;
     }
-    if tags.len() != n {
-        return false;
+    if n > 0 {
+        make_flags(parents, tags, &mut rows[..n * 3]);
     }
-    let three = n * 3;
-    if rows.len() < three {
-        return false;
-    }
-    if tree::tree_bad(parents, tags) != n {
-        return false;
-    }
-    if n == 0 {
-        return true;
-    }
-    make_flags(parents, tags, &mut rows[..three]);
     true
 }

@@ -8,23 +8,19 @@ fn take_up(parents: &[u32], tags: &[u32], v: usize, last: usize, rows: &mut [u32
     requires { TakeUpPre parents.now tags.now last v rows.old }
     ensures { TakenUp parents.now tags.now last v rows.old rows.new }
 {
-    let up = seq::widen(parents[v]);
-    let cell = last + seq::widen(rows[up] % 65536);
-    let before = seq::widen(rows[cell]);
+    let up = parents[v] as usize;
+    let cell = last + (rows[up] % 65536) as usize;
+    let before = rows[cell] as usize;
     rows[cell] = v as u32;
     rows[v] = v as u32;
-    if before == 0 {
-        return;
-    }
-    if tags[before] != tags[v] {
+    if before == 0 || tags[before] != tags[v] {
         return;
     }
     let first = rows[before] % 65536;
     rows[v] = first;
-    if parents[before] != parents[v] {
-        return;
+    if parents[before] == parents[v] {
+        rows[first as usize] = first + 65536;
     }
-    rows[seq::widen(first)] = first + 65536;
 }
 
 // Numbers the types, taking the m elements up in the order that begins at `at`.
@@ -39,11 +35,9 @@ pub(crate) fn number(
     requires { NumberPre parents.now tags.now m «at» last rows.old }
     ensures { Numbered parents.now tags.now rows.old rows.new }
 {
-    let mut i: usize = 0;
-    while i < m {
-        let v = seq::widen(rows[at + i]);
+    for i in 0..m {
+        let v = rows[at + i] as usize;
         take_up(parents, tags, v, last, &mut *rows);
-        i += 1;
     }
 }
 
@@ -52,10 +46,8 @@ pub(crate) fn spread(row: &mut [u32])
     requires { SpreadPre row.old }
     ensures { Spread row.old row.new }
 {
-    let mut v = row.len();
-    while 0 < v {
-        v -= 1;
-        let first = seq::widen(row[v] % 65536);
+    for v in (0..row.len()).rev() {
+        let first = (row[v] % 65536) as usize;
         row[v] = row[first] / 65536;
     }
 }

@@ -4,6 +4,3 @@ use Rattle.types.proofs.number.spread.Given as goal
 
 abbrev pub invariant-loop-v : goal.invariant-loop-v
 invariant-loop-v l = Spreading l.initial.row l.row l.v
-
-abbrev pub decreases-loop-v : goal.decreases-loop-v
-decreases-loop-v l = l.v
