@@ -9,8 +9,9 @@
 --   lowest_in ends occ fl j == that of word j's list (0 where none is)
 --   unowned_by ends occ fl == the first word of whose list no entry is flagged (k where each has one)
 --   as_reason w, lowest_of w == the reason that w stands for, and its 8 occurrences (zeros where it has none)
+--   explaining x           == the explanation of what is found, or of a refusal
 -- Letters: p parents, cs counts, occ occurrences, l list, fl flags; n nodes, k words; v node, u node below it, x occurrence, j word; f test. Assumes nothing.
-use Rattle.std.specs.Prelude.{ℕ, suc, ◌+◌, ◌*◌, ◌≤◌, ◌<◌, ◌≡◌, List, [], Bool, not, cond, ◌&&◌, eqb, ltb, length, get_or, replicate, Option, Some, None, find}
+use Rattle.std.specs.Prelude.{ℕ, suc, ◌+◌, ◌*◌, ◌≤◌, ◌<◌, ◌≡◌, List, [], Bool, not, cond, ◌&&◌, eqb, ltb, length, get_or, replicate, Option, Some, None, find, Result, Ok, Err}
 use Rattle.seq.specs.Below.{first_fail, some_below, tabulate}
 use Rattle.seq.specs.Lists.{some_of, first_of, EachBelow}
 use Rattle.seq.specs.Memory.{over}
@@ -19,6 +20,8 @@ use Rattle.tree.specs.Plain.{Preorder}
 use Rattle.index.specs.Index.{word_list, count_under}
 use Rattle.index.specs.Plain.{WordKept}
 use Rattle.index.specs.declared.Reply.{Reply}
+use Rattle.index.specs.declared.replies.Refusal.{Refusal}
+use Rattle.index.specs.Replies.{accepted, totalled, refusal_reply}
 use Rattle.reason.specs.declared.Reason.{Reason}
 use Rattle.reason.specs.declared.Reason.TheVariants as reason
 use Rattle.reason.specs.declared.Explanation.{Explanation}
@@ -119,3 +122,7 @@ with_reply r m = record { reply = r; reason = m; occurrences = replicate 8 0 }
 
 abbrev pub with_why : Reply → Why → Explanation
 with_why r w = record { reply = r; reason = as_reason w; occurrences = lowest_of w }
+
+abbrev pub explaining : Result Why Refusal → Explanation
+explaining (Ok w) = with_why (totalled accepted 0) w
+explaining (Err e) = with_reply (refusal_reply e) (reason.NotFull 0)

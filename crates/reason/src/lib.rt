@@ -6,15 +6,12 @@ mod finding;
 mod flags;
 
 ghost use Rattle.std.specs.Prelude.{◌≡◌};
-ghost use Rattle.index.specs.Promises.{lent};
+ghost use Rattle.index.specs.Promises.{index_of};
 ghost use Rattle.reason.specs.Promises.{Explained, numbers_of};
-ghost use Rattle.reason.specs.Inner.{LookPre, Looked, with_why, with_reply};
+ghost use Rattle.reason.specs.Inner.{LookPre, Looked, explaining};
 
 use finding::Why;
-use index::Reply;
-
-// The number of the refusal that this call adds to those of the index check.
-pub const NODE: u32 = 10;
+use index::{Lent, Refusal, Reply};
 
 // The numbers of the cases. 0 is none of them.
 pub const NOT_FULL: u32 = 1;
@@ -52,93 +49,67 @@ pub struct Numbers {
     pub occurrences: [u32; 8],
 }
 
-// An explanation of what is found.
-fn explain_why(reply: Reply, why: Why) -> Explanation
-    ensures { result ≡ with_why reply why }
-{
-    let (reason, occurrences) = match why {
-        Why::NotFull(j) => (Reason::NotFull(j), [0; 8]),
-        Why::NotListed(j) => (Reason::NotListed(j), [0; 8]),
-        Why::Listed(lowest) => (Reason::Listed, lowest),
-    };
-    Explanation {
-        reply,
-        reason,
-        occurrences,
-    }
-}
+// An explanation of what is found, or of a refusal.
+impl From<Result<Why, Refusal>> for Explanation {
+    ghost from_gives = { λ found e. e ≡ explaining found };
 
-// What a refused call gives.
-fn refused(reply: Reply) -> Explanation
-    ensures { result ≡ with_reply reply (Reason.NotFull 0) }
-{
-    explain_why(reply, Why::NotFull(0))
+    fn from(found: Result<Why, Refusal>) -> Explanation {
+        let reply = Reply::from(found.map(|_| ()));
+        let (reason, occurrences) = match found {
+            Ok(Why::NotListed(j)) => (Reason::NotListed(j), [0; 8]),
+            Ok(Why::Listed(lowest)) => (Reason::Listed, lowest),
+            Ok(Why::NotFull(j)) => (Reason::NotFull(j), [0; 8]),
+            Err(_) => (Reason::NotFull(0), [0; 8]),
+        };
+        Explanation {
+            reply,
+            reason,
+            occurrences,
+        }
+    }
 }
 
 // The search for the reason on an index that is checked, with a row of zeros for the nodes, which it leaves.
-fn look(
-    parents: &[u32],
-    ends: &[u32],
-    occurrences: &[u32],
-    counts: &[u32],
-    v: usize,
-    row: &mut [u32],
-) -> Why
-    requires { LookPre parents.now ends.now occurrences.now counts.now v row.old }
-    ensures { Looked parents.now ends.now occurrences.now v row.old result row.new }
+fn look(lent: Lent, v: usize, row: &mut [u32]) -> Why
+    requires { LookPre lent.parents.now lent.ends.now lent.occurrences.now lent.counts.now v row.old }
+    ensures { Looked lent.entry.parents.now lent.entry.ends.now lent.entry.occurrences.now v row.old result row.new }
 {
-    let k = ends.len();
-    if let Some(j) = flags::first_missing(counts, parents.len(), k, v) {
+    let k = lent.ends.len();
+    if let Some(j) = flags::first_missing(lent.counts, lent.parents.len(), k, v) {
         return Why::NotFull(j as u32);
     }
-    let end = flags::flag_own(parents, counts, k, v, &mut *row);
-    let found = finding::find(ends, occurrences, &*row);
+    let end = flags::flag_own(lent.parents, lent.counts, k, v, &mut *row);
+    let found = finding::find(lent.ends, lent.occurrences, &*row);
     seq::clear(&mut row[v..end]);
     found
 }
 
-// Why `node` is listed under ELCA of p positive words, or is not.
-//   1 SIZE   q above 0, or as the index check has it; nothing is touched
+// The reason, or why the call is refused: Size for a negative word, as the index check has it, or Node.
+fn find(lent: Lent, node: u32, work: &mut [u32]) -> Result<Why, Refusal>
+    ensures { Explained (index_of lent.entry) node work.old (explaining result) work.new }
+{
+    if lent.negative != 0 {
+        return Err(Refusal::Size);
+    }
+    index::check(lent, &mut *work)?;
+    let n = lent.parents.len();
+    let v = node as usize;
+    if n <= v {
+        return Err(Refusal::Node);
+    }
+    Ok(look(lent, v, &mut work[..n]))
+}
+
+// Why `node` is listed under ELCA of p positive words, or is not; n nodes.
+//   1 SIZE   a negative word, or as the index check has it; nothing is touched
 //   2 TREE, 3 LIST, 4 COUNT   as the index check has them
 //   10 NODE  the node is n or more; place and total 0
 //   0        place and total 0: the reason, and where it is `Listed` the lowest own occurrence of each word, entries past p being 0
 // A refusal gives `NotFull(0)` and zeros. Under every reply but SIZE the first (p + 2)·n entries of work end as 0, and the rest is untouched.
-pub fn explain(
-    parents: &[u32],
-    tags: &[u32],
-    p: u32,
-    q: u32,
-    ends: &[u32],
-    occurrences: &[u32],
-    counts: &[u32],
-    node: u32,
-    work: &mut [u32],
-) -> Explanation
-    ensures { Explained (lent parents.now tags.now p q ends.now occurrences.now
-        counts.now) node work.old result work.new }
+pub fn explain(lent: Lent, node: u32, work: &mut [u32]) -> Explanation
+    ensures { Explained (index_of lent.entry) node work.old result work.new }
 {
-    if q != 0 {
-        return refused(Reply {
-            refusal: index::SIZE,
-            place: 0,
-            total: 0,
-        });
-    }
-    let r = index::check(parents, tags, p, q, ends, occurrences, counts, &mut *work);
-    if r.refusal != index::ACCEPTED {
-        return refused(r);
-    }
-    let n = parents.len();
-    let v = node as usize;
-    if n <= v {
-        return refused(Reply {
-            refusal: NODE,
-            place: 0,
-            total: 0,
-        });
-    }
-    let found = look(parents, ends, occurrences, counts, v, &mut work[..n]);
-    explain_why(r, found)
+    find(lent, node, work).into()
 }
 
 // An explanation in numbers: the case's number and its word, 0 where it names none; both 0 under a refusal.

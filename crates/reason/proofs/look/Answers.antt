@@ -9,7 +9,7 @@ use Rattle.reason.proofs.look.Goals as goal
 use Rattle.reason.proofs.look.Goals.{After-flag_own-end}
 
 -- Every word occurs under the node.
-is_full : (c : After-flag_own-end) → full c.args.parents.now (length c.args.ends.now) (word_list c.args.ends.now c.args.occurrences.now) c.args.v ≡ true
+is_full : (c : After-flag_own-end) → full c.args.lent.parents.now (length c.args.lent.ends.now) (word_list c.args.lent.ends.now c.args.lent.occurrences.now) c.args.v ≡ true
 is_full c = none-missing _ _ _ _ _ _ c.requires _ c.first_missing.ensures c.in_default.is
 
 pub returns-in-Some : goal.returns-in-Some
