@@ -9,7 +9,6 @@ mod Judging
 mod Advancing
 pub mod Blanks
 mod Running
-mod Planning
 mod Listing
 mod Passing
 mod Searching

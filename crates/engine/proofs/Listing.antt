@@ -1,16 +1,14 @@
 -- The answers of a job are those of the index that it is taken from, where there is no negative word. Assumes nothing.
 --   answers-same, total-same, own_same   the answers, how many they are, and their own counts
 --   fits-same            there is room for them by the one as by the other
---   total-few            they are no more than the nodes
 -- Letters: p parents, t tags, a positive and q negative words, ends, occ as lent; b whether the smallest are listed; o, w out and own.
-use Prim.Native.Nat.{ℕ, ◌*◌, ◌≤◌}
+use Prim.Native.Nat.{ℕ, ◌*◌}
 use mathlib.Core.Path.{◌≡◌, sym, ap, ap₂, ◌∙◌}
 use mathlib.Core.List.{List}
 use mathlib.Core.Bool.{Bool, true, false, ◌&&◌, ◌||◌}
 use lib.Dec.{leb}
 use lib.ListN.{length}
 use Rattle.seq.specs.Below.{gather, listed, tabulate}
-use Rattle.seq.proofs.Laws.Gather.{listed_le}
 use Rattle.index.specs.Index.{Index, word_list}
 use Rattle.answers.specs.Answers.{slca, elca, own_count}
 use Rattle.answers.specs.Searches.{is_elca, is_slca, out_row, out_of, own_of, answers, out_fits, own_fits}
@@ -26,9 +24,6 @@ module _ (p t : List ℕ) (a q : ℕ) (ends occ : List ℕ) where
 
   abbrev J : Job
   J = job p ends occ
-
-  pub total-few : (b : Bool) → total J b ≤ length p
-  total-few b = listed_le (length p) (is_answer J b)
 
   module _ (e : length ends ≡ a) where
     test_same : (b : Bool) → is_answer J b ≡ is_listed I b

@@ -3,15 +3,17 @@
 // One entry point, `search`.
 #![tactic(auto)]
 
+ghost use Rattle.std.specs.Prelude.{◌≡◌};
 ghost use Rattle.depot.specs.Depot.{depot};
 ghost use Rattle.engine.specs.Search.{Searched};
+ghost use Rattle.engine.specs.Inner.Passes.{job, FitsPre, fitting, ListPre, Listed};
 
 use index::Reply;
+use steps::Tally;
 
 mod cursors;
 mod entries;
 mod passes;
-mod plans;
 mod steps;
 
 // An open node: of each word's occurrences met under it so far, those that are its own, and those that a full node below it covers.
@@ -21,6 +23,60 @@ pub struct Entry {
     pub node: u32,
     pub own: [u32; 8],
     pub covered: [u32; 8],
+}
+
+// Whether there is room for m answers: in out, and unless the smallest are listed for k counts of each in own.
+fn fits(smallest: bool, m: usize, k: usize, out: usize, own: usize) -> bool
+    requires { FitsPre m k }
+    ensures { result ≡ fitting smallest m k out own }
+{
+    m <= out && (smallest || m * k <= own)
+}
+
+// Counts the answers, and lists them if there is room for them.
+fn list(
+    parents: &[u32],
+    ends: &[u32],
+    occurrences: &[u32],
+    stack: &mut [Entry],
+    out: &mut [u32],
+    own: &mut [u32],
+    smallest: bool,
+) -> Reply
+    requires { ListPre (job parents.now ends.now occurrences.now) stack.old }
+    ensures { Listed (job parents.now ends.now occurrences.now) smallest stack.old out.old own.old result
+        stack.new out.new own.new }
+{
+    let m = passes::pass(
+        stack,
+        parents,
+        ends,
+        occurrences,
+        out,
+        own,
+        smallest,
+        Tally::Counted(0),
+    );
+    let refusal = if fits(smallest, m, ends.len(), out.len(), own.len()) {
+        passes::pass(
+            stack,
+            parents,
+            ends,
+            occurrences,
+            out,
+            own,
+            smallest,
+            Tally::Left(m),
+        );
+        index::ACCEPTED
+    } else {
+        index::ROOM
+    };
+    Reply {
+        refusal,
+        place: 0,
+        total: m as u32,
+    }
 }
 
 // The answers to p positive words, the smallest or the exclusive ones, in increasing number, in out; and of the exclusive ones p own counts each, in word order, in own.
@@ -44,10 +100,14 @@ pub fn search(
         stack.old out.old own.old result stack.new out.new own.new }
 {
     let checked = depot::check(parents, tags, p, q, ends, occurrences, stack.len());
-    let a = plans::first(checked, smallest);
-    let n = passes::pass(stack, parents, ends, occurrences, out, own, a.state);
-    let b = plans::second(a, n.left, ends.len(), out.len(), own.len());
-    passes::pass(stack, parents, ends, occurrences, out, own, b.state);
-    passes::clear(stack, b.cells);
-    b.reply
+    if checked.refusal == index::SIZE {
+        return checked;
+    }
+    let reply = if checked.refusal == index::ACCEPTED {
+        list(parents, ends, occurrences, stack, out, own, smallest)
+    } else {
+        checked
+    };
+    passes::clear(stack);
+    reply
 }

@@ -1,25 +1,38 @@
 // One step of the engine, on the top of the stack, the entry below it, and numbers: the node that comes next is put on the top, or the top is closed.
-ghost use Rattle.std.specs.Prelude.{◌≡◌, ◌-◌};
-ghost use Rattle.engine.specs.Inner.Steps.{risen, ClosePre, ArrivePre, AdvancePre, Closed, Arrived, Advanced};
+ghost use Rattle.std.specs.Prelude.{◌≡◌};
+ghost use Rattle.engine.specs.Inner.Steps.{number, now, moved_to, risen, ClosePre, ArrivePre, AdvancePre, Closed, Arrived, Advanced};
 ghost use Rattle.engine.specs.Inner.Writing.{PutPre, Put, JudgePre, Judged, ClimbPre};
 
-use crate::{Entry, cursors, entries};
+use crate::cursors::Cursors;
+use crate::{Entry, entries};
+
+// The answers of a pass: how many have been counted or, where they are written, how many are left to write.
+#[derive(Clone, Copy)]
+pub(crate) enum Tally {
+    Counted(usize),
+    Left(usize),
+}
+
+impl Tally {
+    pub(crate) fn number(self) -> usize
+        ensures { result ≡ number self }
+    {
+        match self {
+            Tally::Counted(m) | Tally::Left(m) => m,
+        }
+    }
+}
 
 // What one step hands to the next, beside the stack and the cursors.
 #[derive(Clone, Copy)]
 pub(crate) struct State {
-    // whether there is a step to make
-    pub on: bool,
-    // the place of the top, and that of the entry below it, 0 where there is none
-    pub at: usize,
-    pub low: usize,
-    // one more than the node that comes next, or 0 where none is left
+    // how many nodes are open: the pass is over where none is
+    pub depth: usize,
+    // one more than the node that comes next, or 0 where none is left: what is left stands before it
     pub reach: u32,
-    // the answers counted so far or, where they are written, those left to write
-    pub left: usize,
-    // whether the smallest are listed, and whether answers are written
+    pub tally: Tally,
+    // whether the smallest are listed
     pub smallest: bool,
-    pub fill: bool,
 }
 
 #[derive(Clone, Copy)]
@@ -43,20 +56,21 @@ fn put(e: Entry, k: usize, m: usize, smallest: bool, out: &mut [u32], own: &mut 
     }
 }
 
-// Counts a node that is closed, or writes it, if it is an answer. The answers counted, or left to write.
-fn judge(s: State, e: Entry, full: bool, k: usize, out: &mut [u32], own: &mut [u32]) -> usize
+// Counts a node that is closed, or writes it, if it is an answer.
+fn judge(s: State, e: Entry, full: bool, k: usize, out: &mut [u32], own: &mut [u32]) -> Tally
     requires { JudgePre k out.old own.old s e full }
     ensures { Judged k out.old own.old s e result out.new own.new }
 {
     if !e.answers(full, k, s.smallest) {
-        return s.left;
+        return s.tally;
     }
-    if !s.fill {
-        return s.left + 1;
+    match s.tally {
+        Tally::Counted(m) => Tally::Counted(m + 1),
+        Tally::Left(m) => {
+            put(e, k, m - 1, s.smallest, out, own);
+            Tally::Left(m - 1)
+        }
     }
-    let m = s.left - 1;
-    put(e, k, m, s.smallest, out, own);
-    m
 }
 
 // ---- closing
@@ -73,16 +87,6 @@ fn climb(parents: &[u32], node: u32, low: u32, reach: u32) -> u32
     v
 }
 
-// The place below a place, or 0.
-fn below(at: usize) -> usize
-    ensures { result ≡ at - 1 }
-{
-    if at == 0 {
-        return 0;
-    }
-    at - 1
-}
-
 // Closes the top e, below which b stands.
 fn close(
     parents: &[u32],
@@ -93,64 +97,67 @@ fn close(
     e: Entry,
     b: Entry,
 ) -> Step
-    requires { ClosePre parents.now k out.old own.old s e b }
-    ensures { Closed parents.now k out.old own.old s e b result out.new own.new }
+    requires { ClosePre parents.now k out.old own.old (now s) e b }
+    ensures { Closed parents.now k out.old own.old (now s) e b (moved_to result) out.new own.new }
 {
     let held = e.held();
     let full = entries::each_some(k, held);
-    let mut r = s;
-    r.left = judge(s, e, full, k, out, own);
-    let at = s.at;
-    if at == 0 {
-        r.on = false;
-        let f = Entry::new(0);
-        return Step { state: r, top: f };
+    let tally = judge(s, e, full, k, out, own);
+    if s.depth == 1 {
+        let state = State {
+            depth: 0,
+            tally,
+            ..s
+        };
+        return Step {
+            state,
+            top: Entry::new(0),
+        };
     }
     let q = climb(parents, e.node, b.node, s.reach);
     if q == b.node {
-        let to = at - 1;
-        r.at = to;
-        r.low = below(to);
-        let t = b.close_into(full, held);
-        return Step { state: r, top: t };
+        let state = State {
+            depth: s.depth - 1,
+            tally,
+            ..s
+        };
+        let top = b.close_into(full, held);
+        return Step { state, top };
     }
-    let f = Entry::new(q);
-    let t = f.close_into(full, held);
-    Step { state: r, top: t }
+    let state = State { tally, ..s };
+    let top = Entry::new(q).close_into(full, held);
+    Step { state, top }
 }
 
 // ---- what comes next
 
 // Puts the node that comes next on the top t, or adds to t what occurs there if t is that node.
-fn arrive(ends: &[u32], occurrences: &[u32], cursors: &mut [u32], s: State, t: Entry) -> Step
-    requires { ArrivePre ends.now occurrences.now cursors.old s t }
-    ensures { Arrived ends.now occurrences.now cursors.old s t result cursors.new }
+fn arrive(ends: &[u32], occurrences: &[u32], cursors: &mut Cursors, s: State, t: Entry) -> Step
+    requires { ArrivePre ends.now occurrences.now cursors.old (now s) t }
+    ensures { Arrived ends.now occurrences.now cursors.old (now s) t (moved_to result) cursors.new }
 {
-    let reach = s.reach;
-    let x = reach - 1;
-    let came = cursors::coming(&*cursors, reach);
-    let mut r = s;
-    r.reach = cursors::take(ends, occurrences, cursors, reach);
+    let x = s.reach - 1;
+    let came = cursors.coming(s.reach);
+    let reach = cursors.take(ends, occurrences, s.reach);
     if t.node == x {
-        let o = t.own;
-        let c = t.covered;
-        let d = entries::add(o, came);
-        let e = Entry {
-            node: x,
-            own: d,
-            covered: c,
+        let state = State { reach, ..s };
+        let own = entries::add(t.own, came);
+        return Step {
+            state,
+            top: Entry { own, ..t },
         };
-        return Step { state: r, top: e };
     }
-    let at = s.at;
-    r.low = at;
-    r.at = at + 1;
-    let e = Entry {
+    let state = State {
+        depth: s.depth + 1,
+        reach,
+        ..s
+    };
+    let top = Entry {
         node: x,
         own: came,
         covered: [0; 8],
     };
-    Step { state: r, top: e }
+    Step { state, top }
 }
 
 // One step: where the node that comes next is past the top or the top itself, it is put on it; else the top is closed.
@@ -158,16 +165,16 @@ pub(crate) fn advance(
     parents: &[u32],
     ends: &[u32],
     occurrences: &[u32],
-    cursors: &mut [u32],
+    cursors: &mut Cursors,
     out: &mut [u32],
     own: &mut [u32],
     s: State,
     t: Entry,
     b: Entry,
 ) -> Step
-    requires { AdvancePre parents.now ends.now occurrences.now cursors.old out.old own.old s t b }
-    ensures { Advanced parents.now ends.now occurrences.now cursors.old out.old own.old
-        s t b result cursors.new out.new own.new }
+    requires { AdvancePre parents.now ends.now occurrences.now cursors.old out.old own.old (now s) t b }
+    ensures { Advanced parents.now ends.now occurrences.now cursors.old out.old own.old (now s) t b
+        (moved_to result) cursors.new out.new own.new }
 {
     if t.node < s.reach {
         return arrive(ends, occurrences, cursors, s, t);

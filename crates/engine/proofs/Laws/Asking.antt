@@ -1,6 +1,6 @@
 -- What one step asks holds between two steps: places are in memory, no count wraps, and there is room for each answer that is left. Assumes nothing.
 --   stack-enough        the stack never holds more entries than the level of its top's node, so 64 are enough
---   going-at, going-low, going-deep   the places of the top and of the entry below it
+--   going-at, going-deep   the place of the top
 --   going_final         the entry that is closed is a final one
 --   going-comes         what comes, word by word
 --   going-pre           what one step asks
@@ -23,11 +23,10 @@ use Rattle.tree.specs.Tree.{level}
 use Rattle.tree.proofs.Laws.Under.{parents-before}
 use Rattle.answers.specs.Answers.{own}
 use Rattle.engine.specs.declared.Entry.{Entry}
-use Rattle.engine.specs.declared.steps.State.{State}
 use Rattle.engine.specs.Inner.Entries.{held, answering}
 use Rattle.engine.specs.Inner.Cursors.{coming, coming_row}
 use Rattle.engine.specs.Inner.Meaning.{Stands, entry_at, Standing}
-use Rattle.engine.specs.Inner.Steps.{ClosePre, ArrivePre, AdvancePre}
+use Rattle.engine.specs.Inner.Steps.{Now, ClosePre, ArrivePre, AdvancePre}
 use Rattle.engine.specs.Inner.Going.{Job, World, nodes_of, words_of, list_of, is_answer, total, past_of, met_of, Going}
 use Rattle.engine.proofs.Laws.Entries.{sums_at}
 use Rattle.engine.proofs.Laws.Shares.{share_le, top-own, stands-answers}
@@ -48,7 +47,7 @@ module _ (J : Job) (u : World) (G : Going J u) (on : u.state.on ≡ true) where
   abbrev W : ℕ → List ℕ
   W = list_of J
 
-  abbrev st : State
+  abbrev st : Now
   st = u.state
 
   -- The top, and the entry below it.
@@ -56,7 +55,7 @@ module _ (J : Job) (u : World) (G : Going J u) (on : u.state.on ≡ true) where
   t = entry_at u.stack st.at
 
   abbrev below : Entry
-  below = entry_at u.stack st.low
+  below = entry_at u.stack (st.at - 1)
 
   bound : (j : ℕ) → j < 8 → EachBelow (nodes_of J) (W j)
   bound = list-below J G.sound
@@ -71,9 +70,6 @@ module _ (J : Job) (u : World) (G : Going J u) (on : u.state.on ≡ true) where
   -- ---- places
   pub going-at : st.at < length u.stack
   going-at = stack.place
-
-  pub going-low : st.low < length u.stack
-  going-low = omega (arith, G.low, stack.place)
 
   -- As many entries are open as the top's node has levels, or fewer, and no lawful tree has more than 64 of them.
   pub stack-enough : (st.at < level p t.node) × (level p t.node ≤ 64)
@@ -94,11 +90,11 @@ module _ (J : Job) (u : World) (G : Going J u) (on : u.state.on ≡ true) where
   below-few : (j : ℕ) → j < 8 → (get_or below.own j 0 ≤ 65536) × (get_or below.covered j 0 ≤ 65536)
   below-few j l =
       ⊎_elim
-      (λ (h : 0 < st.at). rw G.low (
+      (λ (h : 0 < st.at). (
         own-few _ _ _ (top_rung p G.sound.preorder k G.sound.few_words W bound st.reach u.stack st.at stack h).stands j l,
         covered-few _ _ _ (top_rung p G.sound.preorder k G.sound.few_words W bound st.reach u.stack st.at stack h).stands j l,
       ))
-      (λ (h : st.at ≤ 0). let z : st.low ≡ st.at = omega (arith, G.low) in rw z (own-few _ _ _ stack.stands j l, covered-few _ _ _ stack.stands j l))
+      (λ (h : st.at ≤ 0). let z : st.at - 1 ≡ st.at = omega arith in rw z (own-few _ _ _ stack.stands j l, covered-few _ _ _ stack.stands j l))
       (less_or 0 st.at)
 
   held-few : (j : ℕ) → j < 8 → get_or (held t) j 0 ≤ 131072
@@ -127,6 +123,7 @@ module _ (J : Job) (u : World) (G : Going J u) (on : u.state.on ≡ true) where
 
   close-pre : st.reach ≤ t.node → ClosePre p k u.out u.own st t below
   close-pre h = record {
+    on = on;
     words = G.sound.few_words;
     few = G.sound.few;
     down = parents-before p (nodes_of J) G.sound.preorder;
@@ -157,6 +154,7 @@ module _ (J : Job) (u : World) (G : Going J u) (on : u.state.on ≡ true) where
 
   arrive-pre : t.node < st.reach → ArrivePre J.ends J.occurrences u.cursors st t
   arrive-pre h = record {
+    on = on;
     cursors = cursors-pre J G.sound st.reach u.cursors (G.reaching on) (omega arith);
     counts = record { fits = λ j l. omega (arith, own-few _ _ _ stack.stands j l, coming-few (omega arith) j l) };
     place = going-deep;

@@ -14,13 +14,14 @@ use mathlib.Core.Logic.{⊎_elim}
 use native.Mathlib.Omega.{arith}
 use lib.Dec.{eqb}
 use borrow.Author.Tests.{lt-ltb, le-ltb, eq-eqb, ne_eqb, eqb-true, eqb-false}
-use lib.ListN.{length, get_or, replicate, get_or-replicate}
+use lib.ListN.{length, get_or}
 use Rattle.seq.specs.Lists.{tally, some_of}
 use Rattle.seq.proofs.Laws.Bools.{bool_cases, bool_ext, cond-false}
 use Rattle.seq.proofs.Laws.Numbers.{less_or}
 use Rattle.seq.proofs.Laws.Lists as Passing
 use Rattle.seq.proofs.Laws.Lists.{some_of-at, some_of-of}
 use Rattle.index.specs.Index.{start}
+use Rattle.engine.specs.declared.cursors.Cursors.{Cursors}
 use Rattle.engine.specs.Inner.Cursors.{head, up_to, coming, last_left, stands, Reached, CursorsPre, Taken, SetPre, Set}
 use Rattle.engine.specs.Inner.Meaning.{occ}
 use Rattle.engine.specs.Inner.Going.{Job, nodes_of, words_of, list_of, Sound, Reaching}
@@ -46,7 +47,7 @@ module _ (J : Job) (S : Sound J) where
   at a = get_or J.occurrences a 0
 
   -- ---- where the occurrences from r on have been taken
-  module _ (r : ℕ) (c : List ℕ) (R : Reaching J r c) where
+  module _ (r : ℕ) (c : Cursors) (R : Reaching J r c) where
     head-some : (j : ℕ) → j < words_of J → from j < up_to c j → head c j ≡ suc (at (up_to c j - 1))
     head-some j l h = R.heads j l ∙ last_some J.occurrences (from j) (up_to c j) h
 
@@ -132,7 +133,6 @@ module _ (J : Job) (S : Sound J) where
       pub cursors-pre : CursorsPre J.ends J.occurrences c r
       cursors-pre = record {
         words = S.few_words;
-        long = R.long;
         some = pos;
         left = λ j l e. omega (arith, head-left j l (omega arith));
         within = λ j l. omega (arith, R.within j l, (S.lists j l).within);
@@ -140,7 +140,7 @@ module _ (J : Job) (S : Sound J) where
       }
 
       -- ---- what comes next is taken
-      module _ (r' : ℕ) (c' : List ℕ) (T : Taken J.ends J.occurrences c r r' c') where
+      module _ (r' : ℕ) (c' : Cursors) (T : Taken J.ends J.occurrences c r r' c') where
         abbrev here : ℕ → Bool
         here j = stands c r j
 
@@ -196,7 +196,6 @@ module _ (J : Job) (S : Sound J) where
 
         pub reaching-taken : Reaching J r' c'
         reaching-taken = record {
-          long = T.long ∙ R.long;
           begins = λ j l. ⊎_elim (λ z. omega (arith, up-here j l z, left_here j l z)) (λ z. omega (arith, up-other j l z, R.begins j l)) (bool_cases (here j));
           within = λ j l. ⊎_elim (λ z. omega (arith, up-here j l z, R.within j l)) (λ z. omega (arith, up-other j l z, R.within j l)) (bool_cases (here j));
           heads = λ j l. ⊎_elim
@@ -205,11 +204,11 @@ module _ (J : Job) (S : Sound J) where
               (bool_cases (here j));
           highest = T.reach;
           met = λ j i l h g. omega (arith, taken-less, taken-from j i l h g);
-          others = λ j h l. (T.others j h l).0 ∙ R.others j h l;
+          others = λ j h l. T.others j h l ∙ R.others j h l;
         }
 
   -- No occurrence stands from the next reach on and before the node that was taken.
-  pub taken-skips : (r : ℕ) (c : List ℕ) (R : Reaching J r c) → 0 < r → (r' : ℕ) (c' : List ℕ) → Taken J.ends J.occurrences c r r' c' →
+  pub taken-skips : (r : ℕ) (c : Cursors) (R : Reaching J r c) → 0 < r → (r' : ℕ) (c' : Cursors) → Taken J.ends J.occurrences c r r' c' →
       (j i : ℕ) → j < 8 → i < length (list_of J j) → r' ≤ occ (list_of J) j i → r - 1 ≤ occ (list_of J) j i
   taken-skips r c R pos r' c' T j i l h m =
       ⊎_elim
@@ -221,27 +220,22 @@ module _ (J : Job) (S : Sound J) where
       (less_or j (words_of J))
 
   -- ---- the begin
-  pub set-pre : (c : List ℕ) → length c ≡ 16 → SetPre J.ends J.occurrences c
-  set-pre c l = record {
+  pub set-pre : SetPre J.ends J.occurrences
+  set-pre = record {
     words = S.few_words;
-    long = l;
     within = λ j h. (S.lists j h).within;
     small = λ j i h g m. omega (arith, occurrence-below J S j i h g m, S.few);
   }
 
-  module _ (c : List ℕ) (r' : ℕ) (c' : List ℕ) (zeros : c ≡ replicate 16 0) (T : Set J.ends J.occurrences c r' c') where
-    zero-at : (i : ℕ) → i < 16 → get_or c i 0 ≡ 0
-    zero-at i l = ap (λ (z : List ℕ). get_or z i 0) zeros ∙ get_or-replicate {A = ℕ} 16 i 0 0 l
-
+  module _ (r' : ℕ) (c' : Cursors) (T : Set J.ends J.occurrences r' c') where
     pub reaching-set : Reaching J r' c'
     reaching-set = record {
-      long = T.long ∙ ap length zeros;
       begins = λ j l. omega (arith, T.up_tos j l, (S.lists j l).rising);
       within = λ j l. omega (arith, T.up_tos j l);
       heads = λ j l. T.heads j l ∙ ap (last_left J.occurrences (from j)) (sym (T.up_tos j l));
       highest = T.reach;
       met = λ j i l h g. omega (arith, T.up_tos j l);
-      others = λ j h l. (T.others j h l).0 ∙ zero-at j (omega arith);
+      others = λ j h l. T.others j h l;
     }
 
     -- Every occurrence stands before the reach.

@@ -1,12 +1,12 @@
 -- A pass over the lists, from its begin to its end: the results that the proofs of the code cite. Assumes nothing.
---   going-at, going-low, going-deep, going-pre   what one step asks holds between two steps
+--   going-at, going-deep, going-pre   what one step asks holds between two steps
 --   Stepped, going-stepped   one step keeps what holds
 --   kept_refl, kept_trans, kept_since, kept-with   what a pass leaves of the stack, of out and of own
 --   set-pre, going-begun   the begin
 --   going-over          where the pass is over, the top need not stand in its place
 --   counted-all, length-rows, written_all   the end: all answers have been counted, or written; how many own counts they have
 --   sound-of            the checks show what is asked of a job
--- Letters: J job; u, u₀, u', u'' worlds; ys stack, c cursors, r' reach; o, w out and own; b whether the smallest are listed; m answers left; i entry.
+-- Letters: J job; u, u₀, u', u'' worlds; ys stack, r' reach, c' cursors; o, w out and own; b whether the smallest are listed; m answers left; i entry.
 use Prim.Native.Nat.{ℕ, ◌+◌, ◌*◌, ◌≤◌, ◌<◌}
 use mathlib.Core.Path.{◌≡◌, refl, sym, ap, subst, ◌∙◌}
 use mathlib.Core.List.{List}
@@ -14,7 +14,7 @@ use mathlib.Core.Bool.{Bool, true, false}
 use mathlib.Core.Logic.{⊎_elim}
 use native.Mathlib.Nat.{mul-le-mul_right}
 use native.Mathlib.Omega.{arith}
-use lib.ListN.{length, get_or, length-set, replicate}
+use lib.ListN.{length, get_or, length-set}
 use Rattle.seq.specs.Memory.{over}
 use Rattle.seq.specs.Plain.{StaysFrom}
 use Rattle.seq.proofs.Laws.Bools.{bool_cases, bool-not_both}
@@ -29,6 +29,7 @@ use Rattle.index.specs.Plain.{WordKept}
 use Rattle.answers.proofs.Laws.Full.{full_at}
 use Rattle.engine.specs.declared.Entry.{Entry}
 use Rattle.engine.specs.Inner.Entries.{fresh}
+use Rattle.engine.specs.declared.cursors.Cursors.{Cursors}
 use Rattle.engine.specs.Inner.Cursors.{Set}
 use Rattle.engine.specs.Inner.Meaning.{occ, entry_at, node_at}
 use Rattle.engine.specs.Inner.Going.{Job, World, nodes_of, words_of, list_of, is_answer, answers_of, total, own_rows, past_of, met_of, Sound, Written, Going, Kept, opened}
@@ -38,7 +39,7 @@ use Rattle.engine.proofs.Laws.Occurrences.{list-below}
 use Rattle.engine.proofs.Laws.Cursors.{reaching-set, set_before}
 use Rattle.engine.proofs.Laws.Counting.{past-none}
 pub use Rattle.engine.proofs.Laws.Cursors.{set-pre}
-pub use Rattle.engine.proofs.Laws.Asking.{going-at, going-low, going-deep, going-pre}
+pub use Rattle.engine.proofs.Laws.Asking.{going-at, going-deep, going-pre}
 pub use Rattle.engine.proofs.Laws.Stepping.{Stepped, going-stepped}
 
 -- ---- what a pass leaves
@@ -98,7 +99,7 @@ kept-with J u₀ u a ys long rest = record {
 }
 
 -- ---- the begin
-module _ (J : Job) (S : Sound J) (ys : List Entry) (wide : 64 ≤ length ys) (blank : entry_at ys 0 ≡ fresh 0) (c : List ℕ) (r' : ℕ) (c' : List ℕ) (zeros : c ≡ replicate 16 0) (T : Set J.ends J.occurrences c r' c') where
+module _ (J : Job) (S : Sound J) (ys : List Entry) (wide : 64 ≤ length ys) (blank : entry_at ys 0 ≡ fresh 0) (r' : ℕ) (c' : Cursors) (T : Set J.ends J.occurrences r' c') where
   -- An answer has an occurrence under it, and every occurrence stands before the reach.
   none-met : (b : Bool) (v : ℕ) → v < nodes_of J → r' ≤ v → is_answer J b v ≡ true → ⊥
   unfolding is_answer
@@ -108,18 +109,17 @@ module _ (J : Job) (S : Sound J) (ys : List Entry) (wide : 64 ≤ length ys) (bl
       let a : v ≤ occ (list_of J) 0 f.at =
       under_le J.parents (nodes_of J) (parents-before J.parents (nodes_of J) S.preorder) v (occ (list_of J) 0 f.at) (list-below J S 0 e f.at f.below) f.passes
       in
-      omega (arith, set_before J S c r' c' zeros T 0 f.at e f.below)
+      omega (arith, set_before J S r' c' T 0 f.at e f.below)
 
   pub going-begun : (b fill : Bool) (m : ℕ) (o w : List ℕ) → (fill ≡ false → m ≡ 0) →
       (fill ≡ true → (m ≡ total J b) × (total J b ≤ length o) × (b ≡ false → total J b * words_of J ≤ length w)) →
-      Going J (record { stack = ys; cursors = c'; out = o; own = w; state = record { on = true; at = 0; low = 0; reach = r'; left = m; smallest = b; fill = fill } })
+      Going J (record { stack = ys; cursors = c'; out = o; own = w; state = record { on = true; at = 0; reach = r'; left = m; smallest = b; fill = fill } })
   unfolding met_of
   going-begun b fill m o w counts writes = record {
     sound = S;
     wide = wide;
-    low = refl;
-    standing = λ q. standing-begun J.parents S.preorder (words_of J) S.few_words (list_of J) (list-below J S) r' ys S.some (omega arith) blank (set_before J S c r' c' zeros T);
-    reaching = λ q. reaching-set J S c r' c' zeros T;
+    standing = λ q. standing-begun J.parents S.preorder (words_of J) S.few_words (list_of J) (list-below J S) r' ys S.some (omega arith) blank (set_before J S r' c' T);
+    reaching = λ q. reaching-set J S r' c' T;
     counts = λ f. counts f ∙ sym (none-counted);
     writes = λ f. record {
       left = omega (arith, (writes f).0, none-counted);
@@ -147,7 +147,6 @@ unfolding met_of
 going-over J v t G off = record {
   sound = G.sound;
   wide = omega (arith, G.wide, length-set v.stack v.state.at t);
-  low = G.low;
   standing = λ on. absurd (bool-not_both v.state.on on off);
   reaching = G.reaching;
   counts = λ f. G.counts f ∙ met-same;

@@ -18,12 +18,11 @@ use Rattle.seq.specs.Lists.{tally, EachBelow}
 use Rattle.seq.proofs.Laws.Bools.{bool_cases, cond-true, cond-false}
 use Rattle.seq.proofs.Laws.Numbers.{less_or, row_le}
 use Rattle.engine.specs.declared.Entry.{Entry}
-use Rattle.engine.specs.declared.steps.State.{State}
-use Rattle.engine.specs.declared.steps.Step.{Step}
+use Rattle.engine.specs.declared.cursors.Cursors.{Cursors}
 use Rattle.engine.specs.Inner.Entries.{fresh, sums, held, full_entry, closed_into}
 use Rattle.engine.specs.Inner.Cursors.{coming_row, Taken}
 use Rattle.engine.specs.Inner.Meaning.{Line, entry_at, node_at, Standing}
-use Rattle.engine.specs.Inner.Steps.{left_after, out_after, own_after, risen, moved, step, closed_step, closed_over, arrived_step, Closed, Arrived, Advanced}
+use Rattle.engine.specs.Inner.Steps.{Now, Move, left_after, out_after, own_after, risen, moved, step, closed_step, closed_over, arrived_step, Closed, Arrived, Advanced}
 use Rattle.engine.specs.Inner.Going.{Job, World, nodes_of, words_of, list_of, is_answer, past_of, met_of, Written, Going, measure, Kept, stepped}
 use Rattle.engine.proofs.Laws.Entries.{fresh-node, closed-node}
 use Rattle.engine.proofs.Laws.Climbing.{Climbed, top-climbed}
@@ -42,8 +41,8 @@ pub record Stepped (J : Job) (u u' : World) : Type 0 where
   pub place : u'.state.at < length u.stack
 
 -- ---- the steps, case by case
-module _ (p : List ℕ) (k : ℕ) (s : State) (e b : Entry) where
-  closed-root : s.at ≡ 0 → closed_step p k s e b ≡ step (moved s false s.at s.low s.reach (left_after k s e)) (fresh 0)
+module _ (p : List ℕ) (k : ℕ) (s : Now) (e b : Entry) where
+  closed-root : s.at ≡ 0 → closed_step p k s e b ≡ step (moved s false s.at s.reach (left_after k s e)) (fresh 0)
   unfolding closed_step
   closed-root z = cond-true (eqb s.at 0) (eq-eqb s.at 0 z) _ _
 
@@ -51,23 +50,23 @@ module _ (p : List ℕ) (k : ℕ) (s : State) (e b : Entry) where
   ends = risen p b.node s.reach e.node
 
   closed-met : 0 < s.at → ends ≡ b.node →
-      closed_step p k s e b ≡ step (moved s s.on (s.at - 1) (s.at - 1 - 1) s.reach (left_after k s e)) (closed_into b (full_entry k e) (held e))
+      closed_step p k s e b ≡ step (moved s s.on (s.at - 1) s.reach (left_after k s e)) (closed_into b (full_entry k e) (held e))
   unfolding closed_step closed_over
   closed-met h z = cond-false (eqb s.at 0) (ne_eqb s.at 0 (λ (y : s.at ≡ 0). omega arith)) _ _ ∙ cond-true (eqb ends b.node) (eq-eqb ends b.node z) _ _
 
   closed-new : 0 < s.at → (ends ≡ b.node → ⊥) →
-      closed_step p k s e b ≡ step (moved s s.on s.at s.low s.reach (left_after k s e)) (closed_into (fresh ends) (full_entry k e) (held e))
+      closed_step p k s e b ≡ step (moved s s.on s.at s.reach (left_after k s e)) (closed_into (fresh ends) (full_entry k e) (held e))
   unfolding closed_step closed_over
   closed-new h z = cond-false (eqb s.at 0) (ne_eqb s.at 0 (λ (y : s.at ≡ 0). omega arith)) _ _ ∙ cond-false (eqb ends b.node) (ne_eqb ends b.node z) _ _
 
-module _ (s : State) (t : Entry) (c : List ℕ) (r' : ℕ) where
+module _ (s : Now) (t : Entry) (c : Cursors) (r' : ℕ) where
   arrived-added : t.node ≡ s.reach - 1 →
-      arrived_step s t c r' ≡ step (moved s s.on s.at s.low r' s.left) (record { node = s.reach - 1; own = sums t.own (coming_row c s.reach); covered = t.covered })
+      arrived_step s t c r' ≡ step (moved s s.on s.at r' s.left) (record { node = s.reach - 1; own = sums t.own (coming_row c s.reach); covered = t.covered })
   unfolding arrived_step
   arrived-added z = cond-true (eqb t.node (s.reach - 1)) (eq-eqb t.node (s.reach - 1) z) _ _
 
   arrived_pushed : (t.node ≡ s.reach - 1 → ⊥) →
-      arrived_step s t c r' ≡ step (moved s s.on (s.at + 1) s.at r' s.left) (record { node = s.reach - 1; own = coming_row c s.reach; covered = replicate 8 0 })
+      arrived_step s t c r' ≡ step (moved s s.on (s.at + 1) r' s.left) (record { node = s.reach - 1; own = coming_row c s.reach; covered = replicate 8 0 })
   unfolding arrived_step
   arrived_pushed z = cond-false (eqb t.node (s.reach - 1)) (ne_eqb t.node (s.reach - 1) z) _ _
 
@@ -81,7 +80,7 @@ module _ (J : Job) (u : World) (G : Going J u) (on : u.state.on ≡ true) where
   abbrev W : ℕ → List ℕ
   W = list_of J
 
-  abbrev st : State
+  abbrev st : Now
   st = u.state
 
   -- The top, and the entry below it.
@@ -89,7 +88,7 @@ module _ (J : Job) (u : World) (G : Going J u) (on : u.state.on ≡ true) where
   t = entry_at u.stack st.at
 
   abbrev below : Entry
-  below = entry_at u.stack st.low
+  below = entry_at u.stack (st.at - 1)
 
   bound : (j : ℕ) → j < 8 → EachBelow (nodes_of J) (W j)
   bound = list-below J G.sound
@@ -106,8 +105,8 @@ module _ (J : Job) (u : World) (G : Going J u) (on : u.state.on ≡ true) where
     final = going_final J u G on h
 
     -- Out and own are as closing leaves them, and the stack has a new entry at place a.
-    kept-closed : (a : ℕ) (e : Entry) (go : Bool) (at low r : ℕ) → a < 64 → Kept J u (closed_world k u t (set u.stack a e) u.cursors go at low r)
-    kept-closed a e go at low r l = record {
+    kept-closed : (a : ℕ) (e : Entry) (go : Bool) (at r : ℕ) → a < 64 → Kept J u (closed_world k u t (set u.stack a e) u.cursors go at r)
+    kept-closed a e go at r l = record {
       smallest = refl;
       fill = refl;
       long = length-set u.stack a e;
@@ -121,7 +120,7 @@ module _ (J : Job) (u : World) (G : Going J u) (on : u.state.on ≡ true) where
     -- The root is closed last.
     module _ (z : st.at ≡ 0) where
       abbrev rooted : World
-      rooted = closed_world k u t (set u.stack st.at (fresh 0)) u.cursors false st.at st.low st.reach
+      rooted = closed_world k u t (set u.stack st.at (fresh 0)) u.cursors false st.at st.reach
 
       root : t.node ≡ 0
       unfolding Line
@@ -142,13 +141,12 @@ module _ (J : Job) (u : World) (G : Going J u) (on : u.state.on ≡ true) where
         going = record {
           sound = G.sound;
           wide = omega (arith, length-set u.stack st.at (fresh 0), G.wide);
-          low = G.low;
           standing = λ q. absurd (false≢true q);
           reaching = λ q. absurd (false≢true q);
-          counts = λ f. counts-closed J u t st.reach t.node final _ _ _ _ _ _ more-root f (G.counts f);
-          writes = λ f. written-closed J u t st.reach t.node final _ _ _ _ _ _ more-root f (G.writes f);
+          counts = λ f. counts-closed J u t st.reach t.node final _ _ _ _ _ more-root f (G.counts f);
+          writes = λ f. written-closed J u t st.reach t.node final _ _ _ _ _ more-root f (G.writes f);
         };
-        kept = kept-closed st.at (fresh 0) false st.at st.low st.reach deepest;
+        kept = kept-closed st.at (fresh 0) false st.at st.reach deepest;
         less = less-root;
         place = stack.place;
       }
@@ -159,11 +157,11 @@ module _ (J : Job) (u : World) (G : Going J u) (on : u.state.on ≡ true) where
       x = risen p below.node st.reach t.node
 
       climb : Climbed p k W st.reach u.stack st.at x
-      climb = rw G.low (top-climbed p G.sound.preorder k G.sound.few_words W bound G.sound.some_words st.reach st.at deep u.stack stack h)
+      climb = top-climbed p G.sound.preorder k G.sound.few_words W bound G.sound.some_words st.reach st.at deep u.stack stack h
 
-      module _ (a low : ℕ) (e : Entry) (l : a < length u.stack) (small : a < 64) (node : e.node ≡ x) (w : Standing p k W st.reach (set u.stack a e) a) (isLow : low ≡ a - 1) where
+      module _ (a : ℕ) (e : Entry) (l : a < length u.stack) (small : a < 64) (node : e.node ≡ x) (w : Standing p k W st.reach (set u.stack a e) a) where
         abbrev climbed_to : World
-        climbed_to = closed_world k u t (set u.stack a e) u.cursors st.on a low st.reach
+        climbed_to = closed_world k u t (set u.stack a e) u.cursors st.on a st.reach
 
         top : node_at (set u.stack a e) a ≡ x
         top = ap (λ (z : Entry). z.node) (get_or-set_same u.stack a e (fresh 0) l) ∙ node
@@ -181,18 +179,17 @@ module _ (J : Job) (u : World) (G : Going J u) (on : u.state.on ≡ true) where
           going = record {
             sound = G.sound;
             wide = omega (arith, length-set u.stack a e, G.wide);
-            low = isLow;
             standing = λ q. w;
             reaching = λ q. G.reaching on;
-            counts = λ f. counts-closed J u t st.reach t.node final _ _ _ _ _ _ more-climbed f (G.counts f);
-            writes = λ f. written-closed J u t st.reach t.node final _ _ _ _ _ _ more-climbed f (G.writes f);
+            counts = λ f. counts-closed J u t st.reach t.node final _ _ _ _ _ more-climbed f (G.counts f);
+            writes = λ f. written-closed J u t st.reach t.node final _ _ _ _ _ more-climbed f (G.writes f);
           };
-          kept = kept-closed a e st.on a low st.reach small;
+          kept = kept-closed a e st.on a st.reach small;
           less = less-climbed;
           place = l;
         }
 
-    abbrev SteppedBy : Step → Type 0
+    abbrev SteppedBy : Move → Type 0
     SteppedBy n = Stepped J u (stepped u n u.cursors (out_after k st t u.out) (own_after k st t u.own))
 
     stepped-closed : SteppedBy (closed_step p k st t below)
@@ -200,12 +197,12 @@ module _ (J : Job) (u : World) (G : Going J u) (on : u.state.on ≡ true) where
         ⊎_elim
         (λ (deep : 0 < st.at). ⊎_elim
         (λ z. subst SteppedBy (sym (closed-met p k st t below deep (eqb-true (x deep) below.node z)))
-        (climbed-stepped deep (st.at - 1) (st.at - 1 - 1) met-entry (omega (arith, stack.place)) (omega (arith, deepest))
+        (climbed-stepped deep (st.at - 1) met-entry (omega (arith, stack.place)) (omega (arith, deepest))
         (closed-node below (held t) (full_entry k t) ∙ sym (eqb-true (x deep) below.node z))
-        (rw G.low ((climb deep).met (eqb-true (x deep) below.node z ∙ ap (node_at u.stack) G.low))) refl))
+        ((climb deep).met (eqb-true (x deep) below.node z))))
         (λ z. subst SteppedBy (sym (closed-new p k st t below deep (eqb-false (x deep) below.node z)))
-        (climbed-stepped deep st.at st.low (new-entry deep) stack.place deepest (closed-node (fresh (x deep)) (held t) (full_entry k t) ∙ fresh-node (x deep))
-        ((climb deep).new (λ y. eqb-false (x deep) below.node z (y ∙ sym (ap (node_at u.stack) G.low)))) G.low))
+        (climbed-stepped deep st.at (new-entry deep) stack.place deepest (closed-node (fresh (x deep)) (held t) (full_entry k t) ∙ fresh-node (x deep))
+        ((climb deep).new (λ y. eqb-false (x deep) below.node z y))))
         (bool_cases (eqb (x deep) below.node)))
         (λ (low : st.at ≤ 0). let z : st.at ≡ 0 = omega arith in subst SteppedBy (sym (closed-root p k st t below z)) (root-stepped z))
         (less_or 0 st.at)
@@ -217,7 +214,7 @@ module _ (J : Job) (u : World) (G : Going J u) (on : u.state.on ≡ true) where
         new-entry deep = closed_into (fresh (x deep)) (full_entry k t) (held t)
 
   -- ---- a node comes
-  module _ (h : t.node < st.reach) (r' : ℕ) (c' : List ℕ) (T : Taken J.ends J.occurrences u.cursors st.reach r' c') where
+  module _ (h : t.node < st.reach) (r' : ℕ) (c' : Cursors) (T : Taken J.ends J.occurrences u.cursors st.reach r' c') where
     abbrev y : ℕ
     y = st.reach - 1
 
@@ -236,9 +233,9 @@ module _ (J : Job) (u : World) (G : Going J u) (on : u.state.on ≡ true) where
     open_stack : Standing p k W (suc y) u.stack st.at
     open_stack = subst (λ (r : ℕ). Standing p k W r u.stack st.at) reach-is stack
 
-    module _ (a low : ℕ) (e : Entry) (l : a < length u.stack) (small : a < 64) (node : e.node ≡ y) (w : Standing p k W y (set u.stack a e) a) (isLow : low ≡ a - 1) where
+    module _ (a : ℕ) (e : Entry) (l : a < length u.stack) (small : a < 64) (node : e.node ≡ y) (w : Standing p k W y (set u.stack a e) a) where
       abbrev arrived_at : World
-      arrived_at = record { stack = set u.stack a e; cursors = c'; out = u.out; own = u.own; state = moved st st.on a low r' st.left }
+      arrived_at = record { stack = set u.stack a e; cursors = c'; out = u.out; own = u.own; state = moved st st.on a r' st.left }
 
       new-top : node_at (set u.stack a e) a ≡ y
       new-top = ap (λ (z : Entry). z.node) (get_or-set_same u.stack a e (fresh 0) l) ∙ node
@@ -259,7 +256,6 @@ module _ (J : Job) (u : World) (G : Going J u) (on : u.state.on ≡ true) where
         going = record {
           sound = G.sound;
           wide = omega (arith, length-set u.stack a e, G.wide);
-          low = isLow;
           standing = λ q. standing-next p G.sound.preorder k G.sound.few_words W bound y r' (omega (arith, falls))
               (taken-skips J G.sound st.reach u.cursors (G.reaching on) (omega arith) r' c' T) (set u.stack a e) a w;
           reaching = λ q. reaching-taken J G.sound st.reach u.cursors (G.reaching on) (omega arith) r' c' T;
@@ -284,15 +280,14 @@ module _ (J : Job) (u : World) (G : Going J u) (on : u.state.on ≡ true) where
     stepped-arrived =
         ⊎_elim
         (λ z. let q : t.node ≡ y = eqb-true t.node y z in
-        subst (λ (n : Step). Stepped J u (stepped u n c' u.out u.own)) (sym (arrived-added st t u.cursors r' q))
-        (arrived-stepped st.at st.low added stack.place deepest refl
-        (standing-added p G.sound.preorder k G.sound.few_words W bound y is-node u.stack st.at open_stack (coming_row u.cursors st.reach) comes q) G.low))
+        subst (λ (n : Move). Stepped J u (stepped u n c' u.out u.own)) (sym (arrived-added st t u.cursors r' q))
+        (arrived-stepped st.at added stack.place deepest refl
+        (standing-added p G.sound.preorder k G.sound.few_words W bound y is-node u.stack st.at open_stack (coming_row u.cursors st.reach) comes q)))
         (λ z. let q : t.node < y = omega (arith, eqb-false t.node y z) in
-        subst (λ (n : Step). Stepped J u (stepped u n c' u.out u.own)) (sym (arrived_pushed st t u.cursors r' (eqb-false t.node y z)))
-        (arrived-stepped (st.at + 1) st.at pushed (omega (arith, room q, G.wide)) (omega (arith, room q)) refl
+        subst (λ (n : Move). Stepped J u (stepped u n c' u.out u.own)) (sym (arrived_pushed st t u.cursors r' (eqb-false t.node y z)))
+        (arrived-stepped (st.at + 1) pushed (omega (arith, room q, G.wide)) (omega (arith, room q)) refl
         (subst (λ (d : ℕ). Standing p k W y (set u.stack d pushed) d) (sym (add-one st.at))
-        (standing_pushed p G.sound.preorder k G.sound.few_words W bound y is-node u.stack st.at open_stack (coming_row u.cursors st.reach) comes q (omega (arith, room q, G.wide))))
-        (omega arith)))
+        (standing_pushed p G.sound.preorder k G.sound.few_words W bound y is-node u.stack st.at open_stack (coming_row u.cursors st.reach) comes q (omega (arith, room q, G.wide))))))
         (bool_cases (eqb t.node y))
       where
         added : Entry
@@ -306,7 +301,7 @@ module _ (J : Job) (u : World) (G : Going J u) (on : u.state.on ≡ true) where
         room q = omega (arith, depth-next p G.sound.preorder k W y u.stack st.at open_stack is-node q, G.sound.levels y is-node)
 
   -- ---- one step
-  pub going-stepped : (n : Step) (c' o' w' : List ℕ) → Advanced p J.ends J.occurrences u.cursors u.out u.own st t below n c' o' w' → Stepped J u (stepped u n c' o' w')
+  pub going-stepped : (n : Move) (c' : Cursors) (o' w' : List ℕ) → Advanced p J.ends J.occurrences u.cursors u.out u.own st t below n c' o' w' → Stepped J u (stepped u n c' o' w')
   going-stepped n c' o' w' A =
       ⊎_elim
       (λ (h : t.node < st.reach). arrives (A.arrived h) h)
@@ -318,4 +313,4 @@ module _ (J : Job) (u : World) (G : Going J u) (on : u.state.on ≡ true) where
 
       arrives : Arrived J.ends J.occurrences u.cursors st t n c' × (o' ≡ u.out) × (w' ≡ u.own) → t.node < st.reach → Stepped J u (stepped u n c' o' w')
       arrives C h =
-          rw (C.1, C.2) (subst (λ (m : Step). Stepped J u (stepped u m c' u.out u.own)) (sym C.0.step) (stepped-arrived h n.state.reach c' C.0.cursors))
+          rw (C.1, C.2) (subst (λ (m : Move). Stepped J u (stepped u m c' u.out u.own)) (sym C.0.step) (stepped-arrived h n.state.reach c' C.0.cursors))

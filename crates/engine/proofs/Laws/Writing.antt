@@ -23,9 +23,9 @@ use Rattle.seq.proofs.Laws.Numbers.{less_or, row_next, row_le}
 use Rattle.seq.proofs.Laws.Parts.{put-long, put-inside, put-after}
 use Rattle.answers.specs.Answers.{own_count}
 use Rattle.engine.specs.declared.Entry.{Entry}
-use Rattle.engine.specs.declared.steps.State.{State}
+use Rattle.engine.specs.declared.cursors.Cursors.{Cursors}
 use Rattle.engine.specs.Inner.Entries.{answering}
-use Rattle.engine.specs.Inner.Steps.{left_after, out_after, own_after, row_put, writing, moved}
+use Rattle.engine.specs.Inner.Steps.{Now, left_after, out_after, own_after, row_put, writing, moved}
 use Rattle.engine.specs.Inner.Going.{Job, World, nodes_of, words_of, list_of, is_answer, answers_of, total, own_rows, past_of, met_of, Written}
 use Rattle.engine.proofs.Laws.Entries.{each-some-long}
 use Rattle.engine.proofs.Laws.Counting.{past-place, answer-listed, answer-row}
@@ -48,7 +48,7 @@ module _ (k m : ℕ) (a w : List ℕ) (room : m * k + k ≤ length w) (wide : k 
   row-after i l = ap (λ (z : List ℕ). get_or z i 0) row_put_lem ∙ put-after (m * k) k w (take k a) room row i l
 
 -- ---- the answers counted or left
-module _ (k : ℕ) (st : State) (e : Entry) where
+module _ (k : ℕ) (st : Now) (e : Entry) where
   pub left-answer : answering st.smallest k e ≡ true → st.fill ≡ true → left_after k st e ≡ st.left - 1
   unfolding left_after
   left-answer a f = rw (a, f)
@@ -88,13 +88,13 @@ module _ (k : ℕ) (st : State) (e : Entry) where
   answer-wide b a = each-some-long k e.own (rw b at a)
 
 -- ---- one node is closed
-abbrev pub closed_world : ℕ → World → Entry → List Entry → List ℕ → Bool → ℕ → ℕ → ℕ → World
-closed_world k u e ys c on at low r = record {
+abbrev pub closed_world : ℕ → World → Entry → List Entry → Cursors → Bool → ℕ → ℕ → World
+closed_world k u e ys c on at r = record {
   stack = ys;
   cursors = c;
   out = out_after k u.state e u.out;
   own = own_after k u.state e u.own;
-  state = moved u.state on at low r (left_after k u.state e);
+  state = moved u.state on at r (left_after k u.state e);
 }
 
 pub record Final (J : Job) (u : World) (e : Entry) (s v : ℕ) : Type 0 where
@@ -163,9 +163,9 @@ module _ (J : Job) (u : World) (e : Entry) (s v : ℕ) (d : Final J u e s v) whe
       (out-other k u.state e u.out a, own-other k u.state e u.own a)
 
   -- ---- the counting and the writing go on
-  module _ (ys : List Entry) (c : List ℕ) (on : Bool) (at low r : ℕ) (more : met_of J (closed_world k u e ys c on at low r) ≡ met_of J u + cond (is_answer J b v) 1 0) where
+  module _ (ys : List Entry) (c : Cursors) (on : Bool) (at r : ℕ) (more : met_of J (closed_world k u e ys c on at r) ≡ met_of J u + cond (is_answer J b v) 1 0) where
     abbrev u' : World
-    u' = closed_world k u e ys c on at low r
+    u' = closed_world k u e ys c on at r
 
     pub counts-closed : u.state.fill ≡ false → m ≡ met_of J u → left_after k u.state e ≡ met_of J u'
     counts-closed f h =

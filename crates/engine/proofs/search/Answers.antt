@@ -1,21 +1,22 @@
--- `engine::search` meets its contract: what the plans, the two passes and the zeroing of the stack come to is in Searching. Assumes nothing.
-use Rattle.engine.proofs.Searching.{first-asks, next-asks, second-asks, cells-asked, searched-all}
+-- `engine::search` meets its contract: glue over Searching. Assumes nothing.
+use Rattle.engine.proofs.Searching.{list-pre, wide-of, searched-size, searched-listed, searched-refused}
 use Rattle.engine.proofs.search.Goals as goal
+use Rattle.engine.proofs.search.Goals.{then-checked-eq-ACCEPTED, else-checked-eq-ACCEPTED}
 
-pub pass-n-requires : goal.pass-n-requires
-pass-n-requires c = first-asks _ _ _ _ _ _ _ _ _ _ _ c.check-checked.ensures _ c.first-a.ensures
+pub returns-then-checked-eq-SIZE : goal.returns-then-checked-eq-SIZE
+returns-then-checked-eq-SIZE c = searched-size _ _ _ _ _ _ _ _ _ _ _ c.check-checked.ensures c.if-checked-eq-SIZE.true
 
-pub second-b-requires : goal.second-b-requires
-second-b-requires c = next-asks _ _ _ _ _ _ _ _ _ _ _ c.check-checked.ensures _ c.first-a.ensures _ _ _ _ c.pass-n.ensures
-
-pub pass-requires : goal.pass-requires
-pass-requires c = second-asks _ _ _ _ _ _ _ _ _ _ _ c.check-checked.ensures _ c.first-a.ensures _ _ _ _ c.pass-n.ensures c.pass-n.auto.out c.pass-n.auto.own _ c.second-b.ensures
+pub list-reply-requires : goal.list-reply-requires
+list-reply-requires c = list-pre _ _ _ _ _ _ c.args.smallest _ c.args.out.now c.args.own.now _ c.check-checked.ensures c.if-checked-eq-ACCEPTED.true
 
 pub clear-requires : goal.clear-requires
-clear-requires c =
-    cells-asked _ _ _ _ _ _ _ _ _ _ _ c.check-checked.ensures _ c.first-a.ensures _ _ _ _ c.pass-n.ensures c.pass-n.auto.out c.pass-n.auto.own _ c.second-b.ensures _ _ _ _ c.pass.ensures
+clear-requires c = wide-of _ _ _ _ _ _ c.args.smallest _ c.args.out.now c.args.own.now _ c.check-checked.ensures c.if-checked-eq-SIZE.false _ c.if-checked-eq-ACCEPTED.auto.stack
 
 pub returns : goal.returns
 returns c =
-    searched-all _ _ _ _ _ _ _ _ _ _ _ c.check-checked.ensures _ c.first-a.ensures _ _ _ _ c.pass-n.ensures c.pass-n.auto.out c.pass-n.auto.own _ c.second-b.ensures _ _ _ _ c.pass.ensures _
-    c.clear.ensures
+    elim c.if-checked-eq-ACCEPTED.branch [
+      | then-checked-eq-ACCEPTED w ↦ rw (w.out-is, w.own-is, w.reply-is)
+          (searched-listed _ _ _ _ _ _ _ _ _ _ _ c.check-checked.ensures w.if-checked-eq-ACCEPTED.true _ _ _ _ w.list-reply.ensures _ (rw (← w.stack-is) c.clear.ensures))
+      | else-checked-eq-ACCEPTED w ↦ rw (w.out-is, w.own-is, w.reply-is)
+          (searched-refused _ _ _ _ _ _ _ _ _ _ _ c.check-checked.ensures c.if-checked-eq-SIZE.false w.if-checked-eq-ACCEPTED.false _ (rw (← w.stack-is) c.clear.ensures))
+    ]

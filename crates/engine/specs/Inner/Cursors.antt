@@ -1,6 +1,6 @@
--- What is left of the lists, which are merged from their ends. The cursors are 16 numbers, two for each word there may be:
---   head c j   == entry j: one more than the last occurrence that is left of word j, or 0 where none is
---   up_to c j   == entry 8 + j: where what is left of word j's list ends among the occurrences
+-- What is left of the lists, which are merged from their ends. The cursors are two rows of 8 numbers, one for each word there may be:
+--   head c j   == one more than the last occurrence that is left of word j, or 0 where none is
+--   up_to c j   == where what is left of word j's list ends among the occurrences
 -- and
 --   last_left occ f e    == one more than the last of the occurrences from f up to e, or 0 where there is none
 --   coming c r j        == how often word j occurs at the node that comes next, which is 0 or 1
@@ -10,33 +10,34 @@
 --   CursorsPre …        == what is asked of them
 -- "reach" is one more than the node that comes next, or 0 where none is left: the highest of the heads.
 -- Letters: c cursors; ends, occ as lent; r reach, j word. Assumes nothing.
-use Rattle.std.specs.Prelude.{ℕ, suc, ◌+◌, ◌-◌, ◌≤◌, ◌<◌, ◌≡◌, List, Bool, cond, eqb, ltb, length, get_or}
+use Rattle.std.specs.Prelude.{ℕ, suc, ◌-◌, ◌≤◌, ◌<◌, ◌≡◌, List, Bool, cond, eqb, ltb, length, get_or}
 use Rattle.seq.specs.Below.{tabulate}
 use Rattle.index.specs.Index.{start}
+use Rattle.engine.specs.declared.cursors.Cursors.{Cursors}
 
-abbrev pub head : List ℕ → ℕ → ℕ
-head c j = get_or c j 0
+abbrev pub head : Cursors → ℕ → ℕ
+head c j = get_or c.heads j 0
 
-abbrev pub up_to : List ℕ → ℕ → ℕ
-up_to c j = get_or c (8 + j) 0
+abbrev pub up_to : Cursors → ℕ → ℕ
+up_to c j = get_or c.stops j 0
 
 unfoldable pub last_left : List ℕ → ℕ → ℕ → ℕ
 last_left occ f e = cond (ltb f e) (suc (get_or occ (e - 1) 0)) 0
 
 -- Word j stands at the node that comes next.
-abbrev pub stands : List ℕ → ℕ → ℕ → Bool
+abbrev pub stands : Cursors → ℕ → ℕ → Bool
 stands c r j = eqb (head c j) r
 
-abbrev pub coming : List ℕ → ℕ → ℕ → ℕ
+abbrev pub coming : Cursors → ℕ → ℕ → ℕ
 coming c r j = cond (stands c r j) 1 0
 
-unfoldable pub coming_row : List ℕ → ℕ → List ℕ
+unfoldable pub coming_row : Cursors → ℕ → List ℕ
 coming_row c r = tabulate 8 (coming c r)
 
-abbrev pub up_to_after : List ℕ → ℕ → ℕ → ℕ
+abbrev pub up_to_after : Cursors → ℕ → ℕ → ℕ
 up_to_after c r j = cond (stands c r j) (up_to c j - 1) (up_to c j)
 
-abbrev pub head_after : List ℕ → List ℕ → List ℕ → ℕ → ℕ → ℕ
+abbrev pub head_after : List ℕ → List ℕ → Cursors → ℕ → ℕ → ℕ
 head_after ends occ c r j = cond (stands c r j) (last_left occ (start ends j) (up_to c j - 1)) (head c j)
 
 -- r is one of f's first n numbers.
@@ -50,10 +51,9 @@ pub record Highest (n : ℕ) (f : ℕ → ℕ) (r : ℕ) : Type 0 where
   pub above : (j : ℕ) → j < n → f j ≤ r
   pub among : (r ≡ 0 → ⊥) → Reached n f r
 
--- What is asked: there are at most 8 words and 16 numbers, places are among the occurrences, and numbers fit.
-pub record CursorsPre (ends occ c : List ℕ) (r : ℕ) : Type 0 where
+-- What is asked: there are at most 8 words, places are among the occurrences, and numbers fit.
+pub record CursorsPre (ends occ : List ℕ) (c : Cursors) (r : ℕ) : Type 0 where
   pub words : length ends ≤ 8
-  pub long : length c ≡ 16
   -- the node that comes next is one
   pub some : 0 < r
   pub left : (j : ℕ) → j < length ends → head c j ≡ r → 0 < up_to c j
@@ -62,24 +62,22 @@ pub record CursorsPre (ends occ c : List ℕ) (r : ℕ) : Type 0 where
   pub small : (j i : ℕ) → j < length ends → start ends j ≤ i → i < up_to c j → get_or occ i 0 < 65536
 
 -- The cursors were c and are c', and r' is their reach.
-pub record Taken (ends occ c : List ℕ) (r r' : ℕ) (c' : List ℕ) : Type 0 where
-  pub long : length c' ≡ length c
+pub record Taken (ends occ : List ℕ) (c : Cursors) (r r' : ℕ) (c' : Cursors) : Type 0 where
   pub heads : (j : ℕ) → j < length ends → head c' j ≡ head_after ends occ c r j
   pub up_tos : (j : ℕ) → j < length ends → up_to c' j ≡ up_to_after c r j
   pub reach : Highest (length ends) (head c') r'
   -- the words that there are not
-  pub others : (j : ℕ) → length ends ≤ j → j < 8 → (head c' j ≡ head c j) × (up_to c' j ≡ up_to c j)
+  pub others : (j : ℕ) → length ends ≤ j → j < 8 → head c' j ≡ head c j
 
-pub record SetPre (ends occ c : List ℕ) : Type 0 where
+pub record SetPre (ends occ : List ℕ) : Type 0 where
   pub words : length ends ≤ 8
-  pub long : length c ≡ 16
   pub within : (j : ℕ) → j < length ends → get_or ends j 0 ≤ length occ
   pub small : (j i : ℕ) → j < length ends → start ends j ≤ i → i < get_or ends j 0 → get_or occ i 0 < 65536
 
 -- Nothing has been taken: what is left of each list is all of it.
-pub record Set (ends occ c : List ℕ) (r' : ℕ) (c' : List ℕ) : Type 0 where
-  pub long : length c' ≡ length c
+pub record Set (ends occ : List ℕ) (r' : ℕ) (c' : Cursors) : Type 0 where
   pub heads : (j : ℕ) → j < length ends → head c' j ≡ last_left occ (start ends j) (get_or ends j 0)
   pub up_tos : (j : ℕ) → j < length ends → up_to c' j ≡ get_or ends j 0
   pub reach : Highest (length ends) (head c') r'
-  pub others : (j : ℕ) → length ends ≤ j → j < 8 → (head c' j ≡ head c j) × (up_to c' j ≡ up_to c j)
+  -- the words that there are not
+  pub others : (j : ℕ) → length ends ≤ j → j < 8 → head c' j ≡ 0

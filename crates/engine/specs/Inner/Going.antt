@@ -10,7 +10,7 @@
 --   measure J u           == a number that falls at each step
 --   Kept u u'             == what a pass leaves of out and own: all of them where it counts, what is past the answers left where it writes
 -- Letters: J job, u world; p parents, W lists; b whether the smallest are listed; s, r first node met; v node, j word, i, e entries. Assumes nothing.
-use Rattle.std.specs.Prelude.{ℕ, suc, ◌+◌, ◌-◌, ◌*◌, ◌≤◌, ◌<◌, ◌≡◌, List, Bool, true, false, cond, ◌&&◌, leb, ltb, length, get_or, set}
+use Rattle.std.specs.Prelude.{ℕ, suc, ◌+◌, ◌*◌, ◌≤◌, ◌<◌, ◌≡◌, List, Bool, true, false, cond, ◌&&◌, leb, ltb, length, get_or, set}
 use Rattle.seq.specs.Below.{sum_below, tabulate, gather, listed}
 use Rattle.seq.specs.Plain.{StaysFrom}
 use Rattle.tree.specs.Tree.{level}
@@ -19,11 +19,11 @@ use Rattle.index.specs.Index.{start, word_list}
 use Rattle.index.specs.Plain.{WordKept}
 use Rattle.answers.specs.Answers.{slca, elca, own_count}
 use Rattle.engine.specs.declared.Entry.{Entry}
-use Rattle.engine.specs.declared.steps.State.{State}
-use Rattle.engine.specs.declared.steps.Step.{Step}
+use Rattle.engine.specs.declared.cursors.Cursors.{Cursors}
 use Rattle.engine.specs.Inner.Entries.{fresh}
 use Rattle.engine.specs.Inner.Cursors.{head, up_to, last_left, Highest}
 use Rattle.engine.specs.Inner.Meaning.{node_at, Standing}
+use Rattle.engine.specs.Inner.Steps.{Now, Move}
 
 pub record Job : Type 0 where
   pub parents : List ℕ
@@ -32,10 +32,10 @@ pub record Job : Type 0 where
 
 pub record World : Type 0 where
   pub stack : List Entry
-  pub cursors : List ℕ
+  pub cursors : Cursors
   pub out : List ℕ
   pub own : List ℕ
-  pub state : State
+  pub state : Now
 
 abbrev pub nodes_of : Job → ℕ
 nodes_of J = length J.parents
@@ -74,8 +74,7 @@ pub record Sound (J : Job) : Type 0 where
   pub lists : (j : ℕ) → j < words_of J → WordKept (nodes_of J) J.ends J.occurrences j
 
 -- ---- the cursors
-pub record Reaching (J : Job) (r : ℕ) (c : List ℕ) : Type 0 where
-  pub long : length c ≡ 16
+pub record Reaching (J : Job) (r : ℕ) (c : Cursors) : Type 0 where
   pub begins : (j : ℕ) → j < words_of J → start J.ends j ≤ up_to c j
   pub within : (j : ℕ) → j < words_of J → up_to c j ≤ get_or J.ends j 0
   pub heads : (j : ℕ) → j < words_of J → head c j ≡ last_left J.occurrences (start J.ends j) (up_to c j)
@@ -101,7 +100,6 @@ pub record Written (J : Job) (u : World) : Type 0 where
 pub record Going (J : Job) (u : World) : Type 0 where
   pub sound : Sound J
   pub wide : 64 ≤ length u.stack
-  pub low : u.state.low ≡ u.state.at - 1
   pub standing : u.state.on ≡ true → Standing J.parents (words_of J) (list_of J) u.state.reach u.stack u.state.at
   pub reaching : u.state.on ≡ true → Reaching J u.state.reach u.cursors
   pub counts : u.state.fill ≡ false → u.state.left ≡ met_of J u
@@ -127,5 +125,5 @@ abbrev pub opened : World → Entry → World
 opened v t = record { stack = set v.stack v.state.at t; cursors = v.cursors; out = v.out; own = v.own; state = v.state }
 
 -- The world after a step that gave n, with cursors, out and own as they are then: the new top stands in its place.
-abbrev pub stepped : World → Step → List ℕ → List ℕ → List ℕ → World
+abbrev pub stepped : World → Move → Cursors → List ℕ → List ℕ → World
 stepped u n c o w = record { stack = set u.stack n.state.at n.top; cursors = c; out = o; own = w; state = n.state }

@@ -5,4 +5,4 @@ use Rattle.engine.specs.Search.{blanked}
 use Rattle.engine.proofs.passes.clear.Given as goal
 
 abbrev pub invariant-loop-entry : goal.invariant-loop-entry
-invariant-loop-entry l = l.entry-items ≡ blanked l.entry-index (take l.m l.fn.stack)
+invariant-loop-entry l = l.entry-items ≡ blanked l.entry-index (take 64 l.fn.stack)
