@@ -56,8 +56,6 @@ pub fn slca(
     ensures { MergedSlca (depot parents.now tags.now p q ends.now occurrences.now)
         stack.old out.old result stack.new out.new }
 {
-    // no own counts are written where the smallest are listed
-    let mut own = [0u32; 1];
     engine::search(
         parents,
         tags,
@@ -67,7 +65,8 @@ pub fn slca(
         occurrences,
         stack,
         out,
-        &mut own,
+        // no own counts are written where the smallest are listed
+        &mut [],
         true,
     )
 }
