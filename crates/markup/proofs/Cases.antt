@@ -10,58 +10,60 @@ use mathlib.Core.Bool.{Bool, true, false}
 use Rattle.profile.specs.Bytes.{char, white, name_start, name_char, data_char, starts_with}
 use Rattle.profile.specs.Spans.{span, common}
 use Rattle.profile.specs.Machine.{run_byte, run_next}
-use Rattle.profile.specs.Pieces.{meant, data_stop, close_stop, body_stop, comment_stop, END, DATA, COMMENT, START, EMPTY, CLOSE, NONE, name_size, tag_end, tag_piece, close_piece, markup_piece, piece_of}
+use Rattle.profile.specs.Pieces.{meant, data_stop, close_stop, body_stop, comment_stop, name_size, tag_end, tag_piece, close_piece, markup_piece, piece_of}
 use Rattle.profile.proofs.Cases.{bytes_of}
+use Rattle.markup.specs.declared.Kind.{Kind}
+use Rattle.markup.specs.declared.Kind.TheVariants.{End, Data, Comment, Start, Empty, Close, Nothing}
 use Rattle.markup.specs.declared.Piece.{Piece}
-use Rattle.markup.specs.Pieces.{piece_at}
+use Rattle.markup.specs.Pieces.{kind_of, piece_at}
 
 pub record Case : Type 0 where
   pub text : String
   pub piece : Piece
 
-abbrev pub begins : String → ℕ → Bool → ℕ → ℕ → Case
+abbrev pub begins : String → Kind → Bool → ℕ → ℕ → Case
 begins s k b m e = record { text = s; piece = record { kind = k; whole = b; middle = m; end = e } }
 
 unfoldable pub table : List Case
 table =
-    begins "" END true 0 0 ∷
-    begins "  ab<" DATA true 2 4 ∷
-    begins "  ab" DATA true 2 4 ∷
-    begins " \t\r\n" DATA true 4 4 ∷
-    begins "x]]>" DATA false 0 3 ∷
-    begins "x]]]>" DATA false 0 4 ∷
-    begins "x]>]]]" DATA true 0 6 ∷
-    begins "]]&lt;>" DATA true 0 7 ∷
-    begins "]] >" DATA true 0 4 ∷
-    begins "&apos;&quot;&gt;&amp;" DATA true 0 21 ∷
-    begins "&#65;" DATA false 0 1 ∷
-    begins "&ax;" DATA false 0 2 ∷
-    begins "&ap;" DATA false 0 3 ∷
-    begins "&am" DATA false 0 3 ∷
-    begins "&" DATA false 0 1 ∷
-    begins "<!---->" COMMENT true 2 7 ∷
-    begins "<!--->-->" COMMENT true 2 9 ∷
-    begins "<!-->" COMMENT false 2 5 ∷
-    begins "<!-- a--b -->" COMMENT false 2 8 ∷
-    begins "<!-- a --->" COMMENT false 2 9 ∷
-    begins "<!-a" COMMENT false 2 3 ∷
-    begins "<!--a-" COMMENT false 2 6 ∷
-    begins "<!--<&]]>- -->" COMMENT true 2 14 ∷
-    begins "<!DOCTYPE a>" COMMENT false 2 2 ∷
-    begins "<a>" START true 2 3 ∷
-    begins "<a:b-1.c  \n>" START true 8 12 ∷
-    begins "<a b>" START false 2 3 ∷
-    begins "<a" START false 2 2 ∷
-    begins "<a />" EMPTY true 2 5 ∷
-    begins "<a/ >" EMPTY false 2 3 ∷
-    begins "</a >" CLOSE true 3 5 ∷
-    begins "</ a>" CLOSE false 2 2 ∷
-    begins "</a b>" CLOSE false 3 4 ∷
-    begins "<" NONE false 1 1 ∷
-    begins "< a>" NONE false 1 1 ∷
-    begins "<?xml?>" NONE false 1 1 ∷
+    begins "" End true 0 0 ∷
+    begins "  ab<" Data true 2 4 ∷
+    begins "  ab" Data true 2 4 ∷
+    begins " \t\r\n" Data true 4 4 ∷
+    begins "x]]>" Data false 0 3 ∷
+    begins "x]]]>" Data false 0 4 ∷
+    begins "x]>]]]" Data true 0 6 ∷
+    begins "]]&lt;>" Data true 0 7 ∷
+    begins "]] >" Data true 0 4 ∷
+    begins "&apos;&quot;&gt;&amp;" Data true 0 21 ∷
+    begins "&#65;" Data false 0 1 ∷
+    begins "&ax;" Data false 0 2 ∷
+    begins "&ap;" Data false 0 3 ∷
+    begins "&am" Data false 0 3 ∷
+    begins "&" Data false 0 1 ∷
+    begins "<!---->" Comment true 2 7 ∷
+    begins "<!--->-->" Comment true 2 9 ∷
+    begins "<!-->" Comment false 2 5 ∷
+    begins "<!-- a--b -->" Comment false 2 8 ∷
+    begins "<!-- a --->" Comment false 2 9 ∷
+    begins "<!-a" Comment false 2 3 ∷
+    begins "<!--a-" Comment false 2 6 ∷
+    begins "<!--<&]]>- -->" Comment true 2 14 ∷
+    begins "<!DOCTYPE a>" Comment false 2 2 ∷
+    begins "<a>" Start true 2 3 ∷
+    begins "<a:b-1.c  \n>" Start true 8 12 ∷
+    begins "<a b>" Start false 2 3 ∷
+    begins "<a" Start false 2 2 ∷
+    begins "<a />" Empty true 2 5 ∷
+    begins "<a/ >" Empty false 2 3 ∷
+    begins "</a >" Close true 3 5 ∷
+    begins "</ a>" Close false 2 2 ∷
+    begins "</a b>" Close false 3 4 ∷
+    begins "<" Nothing false 1 1 ∷
+    begins "< a>" Nothing false 1 1 ∷
+    begins "<?xml?>" Nothing false 1 1 ∷
     []
 
 pub fronts : map (λ c. piece_at (bytes_of c.text) 0) table ≡ map (λ c. c.piece) table
-unfolding table bytes_of char white name_start name_char data_char starts_with span common run_byte run_next meant data_stop close_stop body_stop comment_stop name_size tag_end tag_piece close_piece markup_piece piece_of piece_at
+unfolding table bytes_of char white name_start name_char data_char starts_with span common run_byte run_next meant data_stop close_stop body_stop comment_stop name_size tag_end tag_piece close_piece markup_piece piece_of kind_of piece_at
 fronts = refl

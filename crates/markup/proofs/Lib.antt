@@ -8,4 +8,5 @@ mod Loops
 mod Tags
 mod Pieces
 mod Sizes
+pub mod Numbers
 pub mod Cases

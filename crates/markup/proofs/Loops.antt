@@ -16,10 +16,10 @@ use Rattle.profile.specs.Classes.{within, PLAINS, COMMENTEDS, BRACKETS}
 use Rattle.profile.specs.Spans.{span}
 use Rattle.profile.specs.Machine.{Brackets, b0, b1, b2, two}
 use Rattle.profile.specs.Pieces.{stop, after, reference_stop, data_stop, close_stop, body_stop}
-use Rattle.markup.specs.declared.Reached.{Reached}
+use Rattle.std.proofs.Common.{Result, Ok, Err}
 use Rattle.markup.specs.Inner.{reached, reached_from}
 use Rattle.markup.proofs.Classes.{rule, white-plain, skip-stops}
-use Rattle.markup.proofs.Reading.{Reading, reading-start, reading_step, reading-rest, reading-stop, row_at, row_is, row-end}
+use Rattle.markup.proofs.Reading.{ok-whole, ok_place, err-broken, Reading, reading-start, reading_step, reading-rest, reading-stop, row_at, row_is, row-end}
 use Rattle.markup.proofs.Data.{data_run, data_end_lem, data_less, data_other, data_greater, data_whole, data_broken, many, many-two, data_bracket, data_forgets, data_refuses}
 use Rattle.markup.proofs.Comments.{body_run, body_end, body-other, body-last, body_dash, body-close}
 
@@ -53,16 +53,16 @@ module _ (t : List ℕ) (o i : ℕ) (r : Data t o i) (l : i < length t) where
   data_over-greater e =
       reading_step _ t o i r 1 (i + 1) refl (ap (data_stop b0 0) (row_is t i l '>' e) ∙ data_greater (drop (i + 1) t) ∙ ap (λ u. after 1 (data_stop b0 0 (drop 1 u))) (sym (row_is t i l '>' e)))
 
-  -- a reference, of which s tells where it ends
-  module _ (e : get_or t i 0 ≡ '&') (s : Reached) (p : s ≡ reached_from (i + 1) (reference_stop (drop (i + 1) t))) where
-    pub data_at-broken : s.whole ≡ false → s ≡ reached_from o (data_stop b0 0 (drop o t))
-    data_at-broken w =
-        p ∙ reading-rest _ t o i r 1 (reference_stop (drop (i + 1) t)) (ap (data_stop b0 0) (row_is t i l '&' e) ∙ data_broken (drop (i + 1) t) (ap (λ z. z.whole) (sym p) ∙ w))
+  -- a reference, of which is told where it ends
+  module _ (e : get_or t i 0 ≡ '&') (j : ℕ) where
+    pub data_at-broken : Err j ≡ reached_from (i + 1) (reference_stop (drop (i + 1) t)) → Err j ≡ reached_from o (data_stop b0 0 (drop o t))
+    data_at-broken p =
+        p ∙ reading-rest _ t o i r 1 (reference_stop (drop (i + 1) t)) (ap (data_stop b0 0) (row_is t i l '&' e) ∙ data_broken (drop (i + 1) t) (err-broken _ _ _ p))
 
-    pub data_over_reference : s.whole ≡ true → Data t o s.end
-    data_over_reference w =
-        reading_step _ t o i r (suc n) s.end (ap (λ z. z.end) p ∙ add)
-        (ap (data_stop b0 0) (row_is t i l '&' e) ∙ data_whole (drop (i + 1) t) (ap (λ z. z.whole) (sym p) ∙ w)
+    pub data_over_reference : Ok j ≡ reached_from (i + 1) (reference_stop (drop (i + 1) t)) → Data t o j
+    data_over_reference p =
+        reading_step _ t o i r (suc n) j (ok_place _ _ _ p ∙ add)
+        (ap (data_stop b0 0) (row_is t i l '&' e) ∙ data_whole (drop (i + 1) t) (ok-whole _ _ _ p)
         ∙ ap (λ u. after (suc n) (data_stop b0 0 (drop (suc n) u))) (sym (row_is t i l '&' e)))
       where
         n : ℕ
@@ -114,11 +114,8 @@ module _ (t : List ℕ) (o i : ℕ) (r : Data t o i) (l : i < length t) (e : get
       none : more ≡ 0
       none = omega (arith, p)
 
-  pub data_over-last : length t ≤ j → Data t o j
-  data_over-last h = goes (λ b. absurd (omega arith))
-
-  pub data_over_brackets : (get_or t j 0 ≡ '>' → ⊥) → Data t o j
-  data_over_brackets h = goes (λ b. and_false-right (two (many more b1)) _ (ne_eqb _ _ h))
+  pub data_over_brackets : (j < length t → get_or t j 0 ≡ '>' → ⊥) → Data t o j
+  data_over_brackets h = goes (λ b. and_false-right (two (many more b1)) _ (ne_eqb _ _ (h b)))
 
   pub data_at-two : i + 1 < j → j < length t → get_or t j 0 ≡ '>' → reached j false ≡ reached_from o (data_stop b0 0 (drop o t))
   unfolding more
@@ -139,13 +136,18 @@ module _ (t : List ℕ) (o i : ℕ) (r : Body t o i) where
   pub body-skip : (j : ℕ) → j ≡ i + span (within COMMENTEDS) (drop i t) → Body t o j
   body-skip j p = reading_step _ t o i r (span (within COMMENTEDS) (drop i t)) j p (body_run (within COMMENTEDS) (λ x q. (rule x).of-commented ∙ q) (drop i t))
 
-  pub body-ends : length t ≤ i → reached i false ≡ reached_from o (body_stop false (drop o t))
+  body-ends : length t ≤ i → reached i false ≡ reached_from o (body_stop false (drop o t))
   body-ends l = reading-stop _ t o i r false (ap (body_stop false) (row-end t i l) ∙ body_end)
 
-  pub body-at-other : i < length t → within COMMENTEDS (get_or t i 0) ≡ false → (get_or t i 0 ≡ '-' → ⊥) → reached i false ≡ reached_from o (body_stop false (drop o t))
+  body-at-other : i < length t → within COMMENTEDS (get_or t i 0) ≡ false → (get_or t i 0 ≡ '-' → ⊥) → reached i false ≡ reached_from o (body_stop false (drop o t))
   body-at-other l q a =
       reading-stop _ t o i r false
       (ap (body_stop false) (row_at t i l) ∙ body-other (get_or t i 0) (drop (i + 1) t) ((rule (get_or t i 0)).of-commented ∙ q) (ne_eqb _ _ a))
+
+  -- no `-` at i, which is behind a run
+  pub body-stops : (i < length t → within COMMENTEDS (get_or t i 0) ≡ false) → (i < length t → get_or t i 0 ≡ '-' → ⊥) → reached i false ≡ reached_from o (body_stop false (drop o t))
+  body-stops q a =
+      ⊎_elim (λ h. let l = ltb-true i (length t) h in body-at-other l (q l) (a l)) (λ h. body-ends (ltb-false i (length t) h)) (bool_cases (ltb i (length t)))
 
 -- a `-` at i
 module _ (t : List ℕ) (o i : ℕ) (r : Body t o i) (l : i < length t) (e : get_or t i 0 ≡ '-') where
@@ -168,7 +170,7 @@ module _ (t : List ℕ) (o i : ℕ) (r : Body t o i) (l : i < length t) (e : get
       past b = ap (λ u. body_stop false ('-' ∷ u)) (row-end t (i + 1) b) ∙ body-last ∙ ap (λ u. after 1 (body_stop false u)) (sym (row-end t (i + 1) b))
 
   -- two of them, and s tells how they are closed
-  pub body-at-two : i + 1 < length t → get_or t (i + 1) 0 ≡ '-' → (s : Reached) → s ≡ reached_from (i + 1 + 1) (close_stop (drop (i + 1 + 1) t)) →
+  pub body-at-two : i + 1 < length t → get_or t (i + 1) 0 ≡ '-' → (s : Result ℕ ℕ) → s ≡ reached_from (i + 1 + 1) (close_stop (drop (i + 1 + 1) t)) →
       s ≡ reached_from o (body_stop false (drop o t))
   body-at-two b q s p =
       p ∙ ap (λ k. reached_from k (close_stop (drop (i + 1 + 1) t))) two-on

@@ -1,6 +1,7 @@
 -- What is left of a piece at a place, and the steps of the loops that read one. Assumes nothing.
 --   after-add, after-suc                         one front after another
 --   reached-after, reached-stop                  the same at places
+--   ok-whole, ok_place, err-broken               what was reached, and how
 --   run-over                                     a front of bytes each of which leads on
 --   Reading F t o i                              what F says of the text t from o on is what it says from i on, with the bytes between in front
 --   reading-start, -step, -rest, -stop
@@ -10,11 +11,12 @@ use Prim.Native.Nat.{ℕ, suc, ◌+◌, ◌≤◌, ◌<◌}
 use mathlib.Core.Path.{◌≡◌, refl, sym, ap, ◌∙◌}
 use mathlib.Core.Logic.{⊎_elim}
 use mathlib.Core.List.{List, [], ◌∷◌}
-use mathlib.Core.Bool.{Bool, true}
+use mathlib.Core.Bool.{Bool, true, false}
 use native.Mathlib.Numerals.{add-one}
 use native.Mathlib.Omega.{arith}
 use lib.ListN.{length, get_or, drop, drop_of_length-le}
 use lib.Seq.{drop-cons, drop-drop}
+use Rattle.std.proofs.Common.{Ok, Err}
 use Rattle.seq.proofs.Laws.Bools.{bool_cases}
 use Rattle.profile.specs.Spans.{span}
 use Rattle.profile.specs.Pieces.{Stop, stop, after}
@@ -45,6 +47,20 @@ reached-stop i b = ap (λ k. reached k b) none
   where
     none : i + 0 ≡ i
     none = omega arith
+
+-- ---- what is reached
+module _ (j n : ℕ) where
+  pub ok-whole : (b : Bool) → Ok j ≡ reached n b → b ≡ true
+  ok-whole true e = refl
+  ok-whole false e = cc
+
+  pub ok_place : (b : Bool) → Ok j ≡ reached n b → j ≡ n
+  ok_place true e = cc
+  ok_place false e = cc
+
+  pub err-broken : (b : Bool) → Err j ≡ reached n b → b ≡ false
+  err-broken true e = cc
+  err-broken false e = refl
 
 -- A front of bytes each of which leads on.
 pub run-over : (F : List ℕ → Stop) (f : ℕ → Bool) → ((x : ℕ) (t : List ℕ) → f x ≡ true → F (x ∷ t) ≡ after 1 (F t)) →

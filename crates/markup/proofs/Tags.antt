@@ -1,18 +1,19 @@
 -- The parts of tags, at the places of a text. Assumes nothing.
---   close-greater, close_other, close-end     a `>` at a place, another byte, none
+--   close-greater, close_other                a `>` at a place; another byte, or none
 --   name-none, name-low, name-is              a name at a place: none, for want of a byte or of one that begins a name; or as many bytes as go on with one
 --   Named                                     a name and the white space after it; `named`: as they are read
 -- Letters: t text, i k places, m the place after a name.
 use Prim.Native.Nat.{ℕ, suc, ◌+◌, ◌≤◌, ◌<◌}
 use mathlib.Core.Path.{◌≡◌, refl, sym, ap, ◌∙◌}
+use mathlib.Core.Logic.{⊎_elim}
 use mathlib.Core.List.{List, ◌∷◌}
 use mathlib.Core.Bool.{Bool, true, false, cond, ◌||◌}
 use native.Mathlib.Omega.{arith}
 use lib.ListN.{length, get_or, drop}
 use lib.Seq.{drop-drop}
-use lib.Dec.{leb}
-use borrow.Author.Tests.{ne_eqb, lt-leb}
-use Rattle.seq.proofs.Laws.Bools.{and_false-right}
+use lib.Dec.{leb, ltb}
+use borrow.Author.Tests.{ne_eqb, lt-leb, ltb-true, ltb-false}
+use Rattle.seq.proofs.Laws.Bools.{bool_cases, and_false-right}
 use Rattle.profile.specs.Bytes.{'>', white, name_start, name_char}
 use Rattle.profile.specs.Classes.{within, NAMECHARS}
 use Rattle.profile.specs.Spans.{span}
@@ -27,13 +28,16 @@ module _ (t : List ℕ) (i : ℕ) where
   unfolding close_stop
   close-greater l e = ap (λ u. reached_from i (close_stop u)) (sym (row_at t i l ∙ ap (λ y. y ∷ drop (i + 1) t) e))
 
-  pub close_other : i < length t → (get_or t i 0 ≡ '>' → ⊥) → reached i false ≡ reached_from i (close_stop (drop i t))
+  pub close_other : (i < length t → get_or t i 0 ≡ '>' → ⊥) → reached i false ≡ reached_from i (close_stop (drop i t))
   unfolding close_stop
-  close_other l e = sym (ap (λ u. reached_from i (close_stop u)) (row_at t i l) ∙ ap (λ (b : Bool). reached_from i (cond b (stop 1 true) (stop 0 false))) (ne_eqb _ _ e) ∙ reached-stop i false)
+  close_other e = ⊎_elim (λ q. within (ltb-true i (length t) q)) (λ q. past (ltb-false i (length t) q)) (bool_cases (ltb i (length t)))
+    where
+      within : i < length t → reached i false ≡ reached_from i (close_stop (drop i t))
+      within l =
+          sym (ap (λ u. reached_from i (close_stop u)) (row_at t i l) ∙ ap (λ (b : Bool). reached_from i (cond b (stop 1 true) (stop 0 false))) (ne_eqb _ _ (e l)) ∙ reached-stop i false)
 
-  pub close-end : length t ≤ i → reached i false ≡ reached_from i (close_stop (drop i t))
-  unfolding close_stop
-  close-end l = sym (ap (λ u. reached_from i (close_stop u)) (row-end t i l) ∙ reached-stop i false)
+      past : length t ≤ i → reached i false ≡ reached_from i (close_stop (drop i t))
+      past l = sym (ap (λ u. reached_from i (close_stop u)) (row-end t i l) ∙ reached-stop i false)
 
 -- ---- names
 -- Below `:` no byte begins a name; from `:` on each that goes on with one begins one.

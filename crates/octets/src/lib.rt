@@ -3,7 +3,7 @@
 // Each function takes slices of any length and any content, and a place past the end of the text has no bytes at it.
 #![tactic(auto)]
 
-ghost use Rattle.std.specs.Prelude.{ℕ, Bool, ◌≡◌, ◌+◌, ◌<◌, drop};
+ghost use Rattle.std.specs.Prelude.{ℕ, Bool, ◌≡◌, ◌+◌, ◌<◌, [], ◌∷◌, drop};
 ghost use Rattle.profile.specs.Classes.{class, within};
 ghost use Rattle.profile.specs.Bytes as bytes;
 ghost use Rattle.profile.specs.Spans as spans;
@@ -116,6 +116,13 @@ pub fn rise(text: &[u8], at: usize) -> usize
     ensures { result ≡ at + spans.span spans.low (drop at text.now) }
 {
     run(text, at, |x| x <= b' ')
+}
+
+// Whether the byte x stands at a place.
+pub fn is_at(text: &[u8], at: usize, x: u8) -> bool
+    ensures { result ≡ bytes.starts_with (x ∷ []) (drop at text.now) }
+{
+    at < text.len() && text[at] == x
 }
 
 // How many bytes of the word stand in the text at a place, up to the first that differs.

@@ -1,29 +1,35 @@
 -- `markup::body_end` meets its contract: glue over Loops.
+use mathlib.Core.Path.{sym, ◌∙◌}
+use Prim.Native.Nat.{◌+◌, ◌<◌}
 use native.Mathlib.Omega.{arith}
+use lib.ListN.{length}
 use Rattle.profile.specs.Classes.{within, COMMENTEDS}
+use Rattle.octets.proofs.Laws.{at_true, at_false}
 use Rattle.markup.proofs.Classes.{skip-stops}
 use Rattle.markup.proofs.Reading.{reading-start}
-use Rattle.markup.proofs.Loops.{body-skip, body-ends, body-at-other, body-over_dash, body-at-two}
+use Rattle.markup.proofs.Loops.{body-skip, body-stops, body-over_dash, body-at-two}
 use Rattle.markup.proofs.body_end.Goals as goal
 
-pub loop-i-init : goal.loop-i-init
-loop-i-init c = reading-start _ _ _
+pub loop-at-init : goal.loop-at-init
+loop-at-init c = reading-start _ _ _
 
-pub returns-then-text-i : goal.returns-then-text-i
-returns-then-text-i c = body-ends _ _ _ (body-skip _ _ _ c.loop-i.invariant _ c.skip-i.ensures) c.if-text-i.true
+pub returns-then-not-is_at : goal.returns-then-not-is_at
+returns-then-not-is_at c =
+    body-stops _ _ _ (body-skip _ _ _ c.loop-at.invariant _ c.skip-i.ensures) (skip-stops (within COMMENTEDS) _ _ _ c.skip-i.ensures) (at_false _ _ _ (sym c.is_at.ensures ∙ c.if-not-is_at.true))
 
-pub returns-then-text-i-ne45 : goal.returns-then-text-i-ne45
-returns-then-text-i-ne45 c =
-    body-at-other _ _ _ (body-skip _ _ _ c.loop-i.invariant _ c.skip-i.ensures) c.if-text-i.false (skip-stops (within COMMENTEDS) _ _ _ c.skip-i.ensures c.if-text-i.false) c.if-text-i-ne45.true
+pub returns-then-is_at : goal.returns-then-is_at
+returns-then-is_at c =
+    let h = at_true _ _ _ (sym c.is_at.ensures ∙ c.if-not-is_at.false) in
+    let k = at_true _ _ _ (sym c.is_at-in-loop-at.ensures ∙ c.if-is_at.true) in
+    body-at-two _ _ _ (body-skip _ _ _ c.loop-at.invariant _ c.skip-i.ensures) h.0 h.1 k.0 k.1 _ c.greater_end.ensures
 
-pub returns-then-text-i-2 : goal.returns-then-text-i-2
-returns-then-text-i-2 c =
-    body-ends _ _ _ (body-over_dash _ _ _ (body-skip _ _ _ c.loop-i.invariant _ c.skip-i.ensures) c.if-text-i.false c.if-text-i-ne45.false (λ h. absurd (omega (arith, c.if-text-i-2.true)))) c.if-text-i-2.true
+pub loop-at-preserved : goal.loop-at-preserved
+loop-at-preserved c =
+    let h = at_true _ _ _ (sym c.is_at.ensures ∙ c.if-not-is_at.false) in
+    body-over_dash _ _ _ (body-skip _ _ _ c.loop-at.invariant _ c.skip-i.ensures) h.0 h.1 (at_false _ _ _ (sym c.is_at-in-loop-at.ensures ∙ c.if-is_at.false))
 
-pub returns-then-text-i-eq45 : goal.returns-then-text-i-eq45
-returns-then-text-i-eq45 c =
-    body-at-two _ _ _ (body-skip _ _ _ c.loop-i.invariant _ c.skip-i.ensures) c.if-text-i.false c.if-text-i-ne45.false c.if-text-i-2.false c.if-text-i-eq45.true _ c.greater_end.ensures
+pub overflow_add-i : goal.overflow_add-i
+overflow_add-i c = let l : c.skip-i.result < length c.args.text.now = (at_true _ _ _ (sym c.is_at.ensures ∙ c.if-not-is_at.false)).0 in omega (arith, c.well_formed)
 
-pub loop-i-preserved : goal.loop-i-preserved
-loop-i-preserved c =
-    body-over_dash _ _ _ (body-skip _ _ _ c.loop-i.invariant _ c.skip-i.ensures) c.if-text-i.false c.if-text-i-ne45.false (λ h. c.if-text-i-eq45.false)
+pub overflow_add-i-then-is_at : goal.overflow_add-i-then-is_at
+overflow_add-i-then-is_at c = let l : c.skip-i.result + 1 < length c.args.text.now = (at_true _ _ _ (sym c.is_at-in-loop-at.ensures ∙ c.if-is_at.true)).0 in omega (arith, c.well_formed)

@@ -1,12 +1,14 @@
 -- `markup::data_end` meets its contract: glue over Loops.
-use mathlib.Core.Path.{ap}
+use mathlib.Core.Path.{sym, ◌∙◌}
 use native.Mathlib.Omega.{arith}
-use borrow.Author.Tests.{not-true, not-false}
+use Rattle.std.proofs.lemmas.Result.{err_from_is_err_and}
 use Rattle.profile.specs.Classes.{within, PLAINS}
+use Rattle.octets.proofs.Laws.{at_true, at_false}
 use Rattle.markup.proofs.Classes.{skip-stops}
 use Rattle.markup.proofs.Reading.{reading-start}
-use Rattle.markup.proofs.Loops.{data_skip, data_ends, data_at-less, data_at-other, data_over-greater, data_at-broken, data_over_reference, data_over-one, data_over-last, data_over_brackets, data_at-two}
+use Rattle.markup.proofs.Loops.{data_skip, data_ends, data_at-less, data_at-other, data_over-greater, data_at-broken, data_over_reference, data_over-one, data_over_brackets, data_at-two}
 use Rattle.markup.proofs.data_end.Goals as goal
+use Rattle.markup.proofs.data_end.Goals.{else-i-j-via-then-i-j+else-is_at, else-i-j-via-else-i-j}
 
 pub loop-i-init : goal.loop-i-init
 loop-i-init c = reading-start _ _ _
@@ -14,55 +16,37 @@ loop-i-init c = reading-start _ _ _
 pub returns-then-text-i : goal.returns-then-text-i
 returns-then-text-i c = data_ends _ _ _ (data_skip _ _ _ c.loop-i.invariant _ c.skip-i.ensures) c.if-text-i.true
 
-pub returns-then-x-eq60 : goal.returns-then-x-eq60
-returns-then-x-eq60 c =
-    data_at-less _ _ _ (data_skip _ _ _ c.loop-i.invariant _ c.skip-i.ensures) c.if-text-i.false c.if-x-eq60.true
+pub returns-in-60 : goal.returns-in-60
+returns-in-60 c = data_at-less _ _ _ (data_skip _ _ _ c.loop-i.invariant _ c.skip-i.ensures) c.if-text-i.false c.in-60.is
 
-pub returns-then-not-r : goal.returns-then-not-r
-returns-then-not-r c =
-    data_at-broken _ _ _ (data_skip _ _ _ c.loop-i.invariant _ c.skip-i.ensures) c.if-text-i.false c.if-x-eq38.true _ c.reference_end-r.ensures (not-true _ c.if-not-r.true)
+pub returns-in_err-i-in-38 : goal.returns-in_err-i-in-38
+returns-in_err-i-in-38 c =
+    let p = err_from_is_err_and c.from_residual.result c.from_residual.ensures.1 in
+    rw (p.1, p.2) (data_at-broken _ _ _ (data_skip _ _ _ c.loop-i.invariant _ c.skip-i.ensures) c.if-text-i.false c.in-38.is _ c.in_err-i-in-38.ensures)
 
-pub loop-i-smaller-then-x-eq38 : goal.loop-i-smaller-then-x-eq38
-loop-i-smaller-then-x-eq38 c =
-    omega (arith, c.skip-i.ensures, c.if-text-i.false, ap (λ z. z.end) c.reference_end-r.ensures)
+pub loop-i-preserved-in-38 : goal.loop-i-preserved-in-38
+loop-i-preserved-in-38 c =
+    data_over_reference _ _ _ (data_skip _ _ _ c.loop-i.invariant _ c.skip-i.ensures) c.if-text-i.false c.in-38.is _ c.in_ok-i-in-38.ensures
 
-pub loop-i-preserved-then-x-eq38 : goal.loop-i-preserved-then-x-eq38
-loop-i-preserved-then-x-eq38 c =
-    data_over_reference _ _ _ (data_skip _ _ _ c.loop-i.invariant _ c.skip-i.ensures) c.if-text-i.false c.if-x-eq38.true _ c.reference_end-r.ensures (not-false _ c.if-not-r.false)
+pub loop-i-preserved-in-62 : goal.loop-i-preserved-in-62
+loop-i-preserved-in-62 c =
+    data_over-greater _ _ _ (data_skip _ _ _ c.loop-i.invariant _ c.skip-i.ensures) c.if-text-i.false c.in-62.is
 
-pub loop-i-preserved-then-x-eq62 : goal.loop-i-preserved-then-x-eq62
-loop-i-preserved-then-x-eq62 c =
-    data_over-greater _ _ _ (data_skip _ _ _ c.loop-i.invariant _ c.skip-i.ensures) c.if-text-i.false c.if-x-eq62.true
-
-pub returns-then-x-ne93 : goal.returns-then-x-ne93
-returns-then-x-ne93 c =
-    data_at-other _ _ _ (data_skip _ _ _ c.loop-i.invariant _ c.skip-i.ensures) c.if-text-i.false
-    (skip-stops (within PLAINS) _ _ _ c.skip-i.ensures c.if-text-i.false) c.if-x-eq60.false c.if-x-eq38.false c.if-x-eq62.false c.if-x-ne93.true
-
-pub returns-then-text-j-eq62 : goal.returns-then-text-j-eq62
-returns-then-text-j-eq62 c =
-    data_at-two _ _ _ (data_skip _ _ _ c.loop-i.invariant _ c.skip-i.ensures) c.if-text-i.false c.if-x-ne93.false _ c.skip-j.ensures c.if-i-j.true c.if-j-text.true c.if-text-j-eq62.true
-
-pub loop-i-smaller-else-text-j-eq62 : goal.loop-i-smaller-else-text-j-eq62
-loop-i-smaller-else-text-j-eq62 c =
-    omega (arith, c.skip-i.ensures, c.if-text-i.false, c.skip-j.ensures)
-
-pub loop-i-preserved-else-text-j-eq62 : goal.loop-i-preserved-else-text-j-eq62
-loop-i-preserved-else-text-j-eq62 c =
-    data_over_brackets _ _ _ (data_skip _ _ _ c.loop-i.invariant _ c.skip-i.ensures) c.if-text-i.false c.if-x-ne93.false _ c.skip-j.ensures c.if-text-j-eq62.false
-
-pub loop-i-smaller-else-j-text : goal.loop-i-smaller-else-j-text
-loop-i-smaller-else-j-text c =
-    omega (arith, c.skip-i.ensures, c.if-text-i.false, c.skip-j.ensures)
-
-pub loop-i-preserved-else-j-text : goal.loop-i-preserved-else-j-text
-loop-i-preserved-else-j-text c =
-    data_over-last _ _ _ (data_skip _ _ _ c.loop-i.invariant _ c.skip-i.ensures) c.if-text-i.false c.if-x-ne93.false _ c.skip-j.ensures c.if-j-text.false
-
-pub loop-i-smaller : goal.loop-i-smaller
-loop-i-smaller c =
-    omega (arith, c.skip-i.ensures, c.if-text-i.false, c.skip-j.ensures)
+pub returns-then-is_at : goal.returns-then-is_at
+returns-then-is_at c =
+    let h = at_true _ _ _ (sym c.is_at.ensures ∙ c.if-is_at.true) in
+    data_at-two _ _ _ (data_skip _ _ _ c.loop-i.invariant _ c.skip-i.ensures) c.if-text-i.false c.in-93.is _ c.skip-j.ensures c.if-i-j.true h.0 h.1
 
 pub loop-i-preserved : goal.loop-i-preserved
 loop-i-preserved c =
-    data_over-one _ _ _ (data_skip _ _ _ c.loop-i.invariant _ c.skip-i.ensures) c.if-text-i.false c.if-x-ne93.false _ c.skip-j.ensures c.if-i-j.false
+    elim c.else-i-j.branch [
+      | else-i-j-via-then-i-j+else-is_at w ↦
+          data_over_brackets _ _ _ (data_skip _ _ _ c.loop-i.invariant _ c.skip-i.ensures) c.if-text-i.false c.in-93.is _ c.skip-j.ensures
+          (at_false _ _ _ (sym w.is_at.ensures ∙ w.if-is_at.false))
+      | else-i-j-via-else-i-j w ↦ data_over-one _ _ _ (data_skip _ _ _ c.loop-i.invariant _ c.skip-i.ensures) c.if-text-i.false c.in-93.is _ c.skip-j.ensures w.if-i-j.false
+    ]
+
+pub returns-in_default : goal.returns-in_default
+returns-in_default c =
+    data_at-other _ _ _ (data_skip _ _ _ c.loop-i.invariant _ c.skip-i.ensures) c.if-text-i.false
+    (skip-stops (within PLAINS) _ _ _ c.skip-i.ensures c.if-text-i.false) (λ q. omega arith) (λ q. omega arith) (λ q. omega arith) (λ q. omega arith)

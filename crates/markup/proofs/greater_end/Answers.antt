@@ -1,12 +1,17 @@
 -- `markup::greater_end` meets its contract.
-use Rattle.markup.proofs.Tags.{close-greater, close_other, close-end}
+use mathlib.Core.Path.{sym, ◌∙◌}
+use Prim.Native.Nat.{◌<◌}
+use native.Mathlib.Omega.{arith}
+use lib.ListN.{length}
+use Rattle.octets.proofs.Laws.{at_true, at_false}
+use Rattle.markup.proofs.Tags.{close-greater, close_other}
 use Rattle.markup.proofs.greater_end.Goals as goal
 
-pub returns-then-text-at-eq62 : goal.returns-then-text-at-eq62
-returns-then-text-at-eq62 c = close-greater _ _ c.if-at-text.true c.if-text-at-eq62.true
+pub returns-then-is_at : goal.returns-then-is_at
+returns-then-is_at c = let h = at_true _ _ _ (sym c.is_at.ensures ∙ c.if-is_at.true) in close-greater _ _ h.0 h.1
 
-pub returns-else-text-at-eq62 : goal.returns-else-text-at-eq62
-returns-else-text-at-eq62 c = close_other _ _ c.if-at-text.true c.if-text-at-eq62.false
+pub returns-else-is_at : goal.returns-else-is_at
+returns-else-is_at c = close_other _ _ (at_false _ _ _ (sym c.is_at.ensures ∙ c.if-is_at.false))
 
-pub returns-else-at-text : goal.returns-else-at-text
-returns-else-at-text c = close-end _ _ c.if-at-text.false
+pub overflow_add-result : goal.overflow_add-result
+overflow_add-result c = let l : c.args.at < length c.args.text.now = (at_true _ _ _ (sym c.is_at.ensures ∙ c.if-is_at.true)).0 in omega (arith, c.well_formed)
