@@ -344,17 +344,17 @@ module _ (T : List ℕ) (s : Pass) (pre : PassPre T s) (n : get_or T s.at 0 ≡ 
 -- ---- next
 pub record Going (T : List ℕ) (i : ℕ) (g b : Bool) (s : Pass) : Type 0 where
   pub leads-on : leads T s ≡ seek_in T i (ahead g false b 0)
-  pub few : s.node ≤ s.at
+  pub few : s.node + i ≤ s.at
 
 pub going_start : (T : List ℕ) (i : ℕ) (g b : Bool) → Going T i g b (record { at = i; tag = g; solid = b; node = 0 })
 unfolding seek_in
-going_start T i g b = record { leads-on = refl; few = zero-le }
+going_start T i g b = record { leads-on = refl; few = omega arith }
 
 module _ (T : List ℕ) (i : ℕ) (g b : Bool) (s r : Pass) (go : Going T i g b s) (re : Reached T s r) where
   leads-there : seek_in T i (ahead g false b 0) ≡ leads T r
   leads-there = sym go.leads-on ∙ re.same
 
-  few-there : r.node ≤ r.at
+  pub few-there : r.node + i ≤ r.at
   few-there = omega (arith, re.on, re.node, go.few)
 
   pub next-none : length T ≤ r.at → None ≡ next_of T i g b
@@ -373,10 +373,10 @@ module _ (T : List ℕ) (i : ℕ) (g b : Bool) (s r : Pass) (go : Going T i g b 
         there = omega (arith, length-drop (suc r.at) T)
 
     pub pass-pre : word_byte (get_or T r.at 0) ≡ false → PassPre T r
-    pass-pre e = record { within = l; stops = re.stops l; other = e; few = few-there }
+    pass-pre e = record { within = l; stops = re.stops l; other = e; few = omega (arith, few-there) }
 
     pub next-on : (t : Pass) → Passed T r t → Going T i g b t
-    next-on t p = record { leads-on = sym (leads-there ∙ p.same); few = p.few }
+    next-on t p = record { leads-on = sym (leads-there ∙ p.same); few = omega (arith, p.few, few-there) }
 
     pub next-less : (t : Pass) → Passed T r t → length T - t.at < length T - s.at
     next-less t p = omega (arith, p.on, re.on)

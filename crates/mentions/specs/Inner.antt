@@ -5,7 +5,7 @@
 --   MarkupPre, PassPre   == the pass stands at a `<`, and at any byte that matters but a letter or digit
 --   Passed T s r    == the pass s, having passed over that, is r
 -- Letters: T text, s r passes. Assumes nothing.
-use Rattle.std.specs.Prelude.{ℕ, ◌≤◌, ◌<◌, ◌≡◌, List, Bool, false, not, cond, ◌||◌, eqb, length, get_or, drop}
+use Rattle.std.specs.Prelude.{ℕ, ◌+◌, ◌≤◌, ◌<◌, ◌≡◌, List, Bool, false, not, cond, ◌||◌, eqb, length, get_or, drop}
 use Rattle.profile.specs.Bytes.{'&', '<', '>'}
 use Rattle.profile.specs.Tree.{place_in}
 use Rattle.words.specs.Runs.{word_byte}
@@ -46,4 +46,4 @@ pub record PassPre (T : List ℕ) (s : Pass) : Type 0 where
 pub record Passed (T : List ℕ) (s r : Pass) : Type 0 where
   pub same : leads T s ≡ leads T r
   pub on : s.at < r.at
-  pub few : r.node ≤ r.at
+  pub few : r.node + s.at ≤ s.node + r.at

@@ -1,10 +1,12 @@
-// Where the words of a text start: one call gives the next one, with its node. The text was judged: it is cut by the first bytes of its markup (`words`, specs/Scan).
-// One entry point, `next`. Slices of any length and any content may be lent.
+// Where the words of a text start: one call gives the next one, with its node; and a walk gives them all, with their hashes. The text was judged: it is cut by the first bytes of its
+// markup (`words`, specs/Scan). Slices of any length and any content may be lent.
 #![tactic(auto)]
 
-ghost use Rattle.std.specs.Prelude.{◌≡◌, ◌+◌, drop};
+ghost use Rattle.std.specs.Prelude.{◌≡◌, ◌≤◌, ◌+◌, List, ℕ, IfSome, drop};
 ghost use Rattle.profile.specs.Spans.{span};
+ghost use Rattle.words.specs.Scan.{mentions_in};
 ghost use Rattle.mentions.specs.Next.{next_of};
+ghost use Rattle.mentions.specs.Walk.{left, Walked};
 ghost use Rattle.mentions.specs.Inner.{quiet, Reached, MarkupPre, PassPre, Passed};
 
 // Where a pass over a text is: at which place, whether in a tag, whether the data so far makes a node, and how many nodes on from where it began.
@@ -99,7 +101,8 @@ fn over(text: &[u8], s: Pass) -> Pass
 
 // The pass at the first byte of the next word, if there is one, from a place on, in a tag or not, where the data before it makes a node or not. In data the word makes the node.
 pub fn next(text: &[u8], at: usize, tag: bool, solid: bool) -> Option<Pass>
-    ensures { result ≡ next_of text.now at tag solid }
+    ensures is { result ≡ next_of text.now at tag solid }
+    ensures few { IfSome result (λ r. r.node + at ≤ r.at) }
 {
     let mut s = Pass {
         at,
@@ -117,5 +120,56 @@ pub fn next(text: &[u8], at: usize, tag: bool, solid: bool) -> Option<Pass>
             });
         }
         s = over(text, r);
+    }
+}
+
+// A word of a text: the place of its first byte, its hash, and its node.
+#[derive(Clone, Copy)]
+pub struct Mention {
+    pub place: usize,
+    pub hash: u32,
+    pub node: usize,
+}
+
+// A walk over the words of a text, from the first on. It is behind the last word that it gave.
+#[derive(Clone, Copy)]
+pub struct Walk {
+    pass: Pass,
+    ghost few: { pass.node ≤ pass.at },
+}
+
+impl Walk {
+    // Before the first word of a text.
+    pub fn new() -> Walk
+        ensures { (T : List ℕ) → left T result.pass ≡ mentions_in T }
+    {
+        Walk {
+            pass: Pass {
+                at: 0,
+                tag: false,
+                solid: false,
+                node: 0,
+            },
+        }
+    }
+
+    // On to the next word, if there is one.
+    pub fn next(&mut self, text: &[u8]) -> Option<Mention>
+        ensures { Walked text.now self.old.pass result self.new.pass }
+    {
+        let s = self.pass;
+        let r = next(text, s.at, s.tag, s.solid)?;
+        let word = inplace::hash_word(text, r.at);
+        let node = s.node + r.node;
+        self.pass = Pass {
+            at: word.end,
+            node,
+            ..r
+        };
+        Some(Mention {
+            place: r.at,
+            hash: word.hash,
+            node,
+        })
     }
 }

@@ -4,13 +4,13 @@
 --   asked-apart, asked-same        the ways out of `is_asked`;  asked_is: where the hashes are those of the two words, they need not be asked
 --   hash-words_unique, is-asked_unique   no second outcome fits
 -- Letters: Q query, h hashes, d those that were lent, j word, f where its bytes begin. Assumes nothing.
-use Prim.Native.Nat.{ℕ, zero-le, ◌+◌, ◌-◌, ◌≤◌, ◌<◌}
+use Prim.Native.Nat.{ℕ, zero-le, ◌+◌, ◌≤◌, ◌<◌}
 use mathlib.Core.Path.{◌≡◌, refl, sym, ap, ◌∙◌}
 use mathlib.Core.List.{List, map}
 use mathlib.Core.Bool.{Bool, true, false, ◌&&◌}
 use native.Mathlib.Omega.{arith}
 use lib.Dec.{eqb, leb}
-use lib.ListN.{length, get_or, take, drop, set}
+use lib.ListN.{length, get_or, set}
 use borrow.Author.Tests.{eq-eqb, ne_eqb, le-leb, lt-leb}
 use Rattle.seq.specs.Below.{tabulate}
 use Rattle.seq.specs.Lists.{same_list}
@@ -20,44 +20,38 @@ use Rattle.seq.proofs.Laws.Gather.{length-tabulate, get_d_tabulate}
 use Rattle.seq.proofs.Laws.Memory.{over-front, length_over}
 use Rattle.seq.proofs.Laws.Loops.{Filling, filling_start, filling_step}
 use Rattle.seq.proofs.Laws.Lists.{same_list-is}
-use Rattle.index.specs.Index.{start}
+use Rattle.index.specs.Index.{word_list}
 use Rattle.fnv.specs.Fnv.{hash_of}
 use Rattle.words.specs.Runs.{Word, lower}
 use Rattle.words.specs.Reading.{word_at}
 use Rattle.query.specs.Query.{Query, asked, word_count, query_ok, hashes_of, hashes_after, Hashes}
-use Rattle.query.specs.Plain.{IsQuery}
 use Rattle.query.specs.Inner.{HashPre}
-use Rattle.query.proofs.Kept.{part-is, part-next, query-kept}
+use Rattle.query.proofs.Kept.{query-kept}
 
 -- ---- put_hashes
 abbrev hash_at : Query → ℕ → ℕ
 hash_at Q j = hash_of (asked Q j)
 
-pub record Hashing (Q : Query) (d h : List ℕ) (f j : ℕ) : Type 0 where
+-- The first j hashes are written.
+pub record Hashing (Q : Query) (d h : List ℕ) (j : ℕ) : Type 0 where
   pub within : j ≤ word_count Q
-  pub begins : f ≡ start Q.ends j
   pub filled : Filling (hash_at Q) d h j
 
-pub hashing_start : (Q : Query) (d : List ℕ) → Hashing Q d d 0 0
-unfolding start
-hashing_start Q d = record { within = zero-le; begins = refl; filled = filling_start (hash_at Q) d }
+pub hashing_start : (Q : Query) (d : List ℕ) → Hashing Q d d 0
+hashing_start Q d = record { within = zero-le; filled = filling_start (hash_at Q) d }
 
-module _ (Q : Query) (d h : List ℕ) (f j : ℕ) (pre : HashPre Q d) (s : Hashing Q d h f j) (l : j < word_count Q) where
+module _ (Q : Query) (d h : List ℕ) (j : ℕ) (pre : HashPre Q d) (s : Hashing Q d h j) (l : j < word_count Q) where
   pub slot-fits : j < length h
   slot-fits = omega (arith, pre.room, s.filled.long)
 
-  pub hashing_step : (t x : ℕ) → t ≡ get_or Q.ends j 0 → x ≡ hash_of (map lower (take (t - f) (drop f Q.words))) → Hashing Q d (set h j x) t (j + 1)
-  hashing_step t x e p =
-      let q : IsQuery Q = query-kept Q pre.ok in
-      record {
-        within = omega arith;
-        begins = part-next Q q j f t l s.begins e;
-        filled = filling_step (hash_at Q) d h j x s.filled (omega (arith, pre.room)) (p ∙ ap hash_of (part-is Q q j f t l s.begins e));
-      }
+  pub hashing_step : (w : Word) (x : ℕ) → w ≡ word_list Q.ends Q.words j → x ≡ hash_of (map lower w) → Hashing Q d (set h j x) (j + 1)
+  unfolding asked
+  hashing_step w x e p =
+      record { within = omega arith; filled = filling_step (hash_at Q) d h j x s.filled (omega (arith, pre.room)) (p ∙ ap (λ (z : Word). hash_of (map lower z)) e) }
 
-pub hashing_end : (Q : Query) (d h : List ℕ) (f j : ℕ) → Hashing Q d h f j → word_count Q ≤ j → h ≡ over (hashes_of Q) d
+pub hashing_end : (Q : Query) (d h : List ℕ) (j : ℕ) → Hashing Q d h j → word_count Q ≤ j → h ≡ over (hashes_of Q) d
 unfolding hashes_of
-hashing_end Q d h f j s l = let all : j ≡ word_count Q = omega (arith, s.within) in s.filled.front ∙ ap (λ (z : ℕ). over (tabulate z (hash_at Q)) d) all
+hashing_end Q d h j s l = let all : j ≡ word_count Q = omega (arith, s.within) in s.filled.front ∙ ap (λ (z : ℕ). over (tabulate z (hash_at Q)) d) all
 
 -- ---- hash_words
 module _ (Q : Query) (h : List ℕ) where

@@ -3,9 +3,9 @@
 --   part-is          word j's bytes as code takes them, which knows where they begin and end
 -- Letters: Q query, j word, f where its bytes begin, t where they end. Assumes nothing.
 use Prim.Native.Nat.{ℕ, zero, suc, pred, ◌+◌, ◌-◌, ◌≤◌, ◌<◌}
-use mathlib.Core.Path.{◌≡◌, refl, sym, ap, ap₂, ◌∙◌}
+use mathlib.Core.Path.{◌≡◌, refl, sym, ap}
 use mathlib.Core.Logic.{◌↔◌}
-use mathlib.Core.List.{List, [], ◌∷◌, map}
+use mathlib.Core.List.{List, [], ◌∷◌}
 use mathlib.Core.Bool.{true, ◌&&◌}
 use native.Mathlib.Nat.{not-suc-le-zero}
 use native.Mathlib.Omega.{arith}
@@ -18,8 +18,8 @@ use Rattle.seq.proofs.Laws.Bools.{and_left, and_right, and_both}
 use Rattle.seq.proofs.Laws.Below.{every-at, every_of_lem}
 use Rattle.seq.proofs.Laws.Lists.{every_of-at}
 use Rattle.index.specs.Index.{start, word_list}
-use Rattle.words.specs.Runs.{word_byte, lower}
-use Rattle.query.specs.Query.{Query, asked, word_count, rises, query_ok}
+use Rattle.words.specs.Runs.{word_byte}
+use Rattle.query.specs.Query.{Query, word_count, rises, query_ok}
 use Rattle.query.specs.Plain.{IsQuery}
 
 -- ---- a query that is taken
@@ -60,6 +60,16 @@ query-of Q q =
 pub query-plain : (Q : Query) → (query_ok Q ≡ true) ↔ IsQuery Q
 query-plain Q = (query-kept Q, query-of Q)
 
+-- Where a word begins, as code finds it.
+pub start-none : (ends : List ℕ) (j : ℕ) → j ≡ 0 → 0 ≡ start ends j
+unfolding start
+start-none ends j e = sym (ap (start ends) e)
+
+pub start-some : (ends : List ℕ) (j : ℕ) → (j ≡ 0 → ⊥) → get_or ends (j - 1) 0 ≡ start ends j
+unfolding start
+start-some ends zero n = absurd (n refl)
+start-some ends (suc j) n = let less : suc j - 1 ≡ j = omega arith in ap (λ (z : ℕ). get_or ends z 0) less
+
 -- Ends do not fall, and none is past the last.
 pub start-suc : (ends : List ℕ) (j : ℕ) → start ends (suc j) ≡ get_or ends j 0
 unfolding start
@@ -80,17 +90,13 @@ module _ (Q : Query) (q : IsQuery Q) where
       top (suc k) h = omega arith
 
 -- Word j's bytes as code takes them.
-module _ (Q : Query) (q : IsQuery Q) (j f t : ℕ) (l : j < word_count Q) (b : f ≡ start Q.ends j) (e : t ≡ get_or Q.ends j 0) where
-  pub part-rises : f ≤ t
+module _ (Q : Query) (q : IsQuery Q) (j f : ℕ) (l : j < word_count Q) (b : f ≡ start Q.ends j) where
+  pub part-rises : f ≤ get_or Q.ends j 0
   part-rises = omega (arith, q.not_empty j l)
 
-  pub part-within : t ≤ length Q.words
-  part-within = omega (arith, end-within Q q j l)
+pub part-within : (Q : Query) (q : IsQuery Q) (j : ℕ) (l : j < word_count Q) → get_or Q.ends j 0 ≤ length Q.words
+part-within Q q j l = end-within Q q j l
 
-  pub part-is : map lower (take (t - f) (drop f Q.words)) ≡ asked Q j
-  unfolding asked word_list
-  part-is = ap₂ (λ (x y : ℕ). map lower (take (y - x) (drop x Q.words))) b e
-
-  -- Where the next word's bytes begin.
-  pub part-next : t ≡ start Q.ends (j + 1)
-  part-next = let next : suc j ≡ j + 1 = omega arith in e ∙ sym (start-suc Q.ends j) ∙ ap (start Q.ends) next
+pub part-is : (Q : Query) (j f : ℕ) → f ≡ start Q.ends j → take (get_or Q.ends j 0 - f) (drop f Q.words) ≡ word_list Q.ends Q.words j
+unfolding word_list
+part-is Q j f b = ap (λ (x : ℕ). take (get_or Q.ends j 0 - x) (drop x Q.words)) b
