@@ -2,7 +2,7 @@
 --   begun text       == the reader at the front of a text
 --   place_after p at  == the place after the piece p that began at `at`: behind it where it is whole, else where it began
 --   Gives r p r'     == the reader r gives the piece p, the one at its place, and is then r': the same text, behind the piece if it is whole
--- At the end of the text the piece is END, which is whole and of no bytes, so that the reader stays. Letters: r reader, p piece. Assumes nothing.
+-- At the end of the text the piece is End, which is whole and of no bytes, so that the reader stays. Letters: r reader, p piece. Assumes nothing.
 use Rattle.std.specs.Prelude.{ℕ, ◌≡◌, List, cond}
 use Rattle.std.specs.Borrow.{Bor}
 use Rattle.markup.specs.declared.Piece.{Piece}

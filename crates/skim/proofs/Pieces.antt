@@ -15,15 +15,17 @@ use lib.Seq.{drop-drop, get_or-drop}
 use borrow.Author.Tests.{eq-eqb, ne_eqb}
 use Rattle.profile.specs.Bytes.{'!', '-', '/', '<', '>', starts_with}
 use Rattle.profile.specs.Spans.{span, other, low}
-use Rattle.profile.specs.Pieces.{END, DATA, COMMENT, START, EMPTY, CLOSE}
+use Rattle.profile.specs.Pieces.{START, EMPTY, CLOSE}
 use Rattle.profile.proofs.Laws.Spans.{span_le}
+use Rattle.markup.specs.declared.Kind.{Kind}
+use Rattle.markup.specs.declared.Kind.TheVariants.{End, Data, Comment, Start, Empty, Close}
 use Rattle.markup.specs.declared.Piece.{Piece}
-use Rattle.markup.specs.Pieces.{piece_from}
+use Rattle.markup.specs.Pieces.{kind_of, piece_from}
 use Rattle.markup.proofs.Reading.{row_at}
 use Rattle.skim.specs.Skim.{until, skim_data, skim_comment, tag_kind, skim_tag, skim_of, skim_at}
 use Rattle.skim.proofs.Rows.{until_le}
 
-abbrev pub skimmed : ℕ → ℕ → ℕ → Piece
+abbrev pub skimmed : Kind → ℕ → ℕ → Piece
 skimmed k m e = record { kind = k; whole = true; middle = m; end = e }
 
 -- ---- tags
@@ -44,9 +46,9 @@ module _ (t : List ℕ) (o e : ℕ) (l : o < length t) (p : e ≡ o + 1 + span (
   unfolding tag_kind
   kind-is = ap₂ (λ (a b : Bool). cond a CLOSE (cond b EMPTY START)) (ap (starts_with ('/' ∷ [])) rest) (ap (λ x. eqb x '/') last_byte)
 
-  tag_is : (k : ℕ) → tag_kind (drop o t) ≡ k → skimmed k o (e + 1) ≡ piece_from o (skim_tag (drop o t))
+  tag_is : (k : ℕ) → tag_kind (drop o t) ≡ k → skimmed (kind_of k) o (e + 1) ≡ piece_from o (skim_tag (drop o t))
   unfolding skim_tag
-  tag_is k q = ap (λ k. skimmed k o (e + 1)) (sym q) ∙ ap₂ (skimmed (tag_kind (drop o t))) none size
+  tag_is k q = ap (λ k. skimmed (kind_of k) o (e + 1)) (sym q) ∙ ap₂ (skimmed (kind_of (tag_kind (drop o t)))) none size
     where
       none : o ≡ o + 0
       none = omega arith
@@ -54,27 +56,31 @@ module _ (t : List ℕ) (o e : ℕ) (l : o < length t) (p : e ≡ o + 1 + span (
       size : e + 1 ≡ o + (1 + span (other '>') (drop 1 (drop o t)) + 1)
       size = omega (arith, p, ap (span (other '>')) rest)
 
-  pub tag-close : starts_with ('/' ∷ []) (drop (o + 1) t) ≡ true → skimmed CLOSE o (e + 1) ≡ piece_from o (skim_tag (drop o t))
+  pub tag-close : starts_with ('/' ∷ []) (drop (o + 1) t) ≡ true → skimmed Close o (e + 1) ≡ piece_from o (skim_tag (drop o t))
+  unfolding kind_of
   tag-close a = tag_is CLOSE (kind-is ∙ ap (λ (b : Bool). cond b CLOSE (cond (eqb (get_or t (e - 1) 0) '/') EMPTY START)) a)
 
   module _ (a : starts_with ('/' ∷ []) (drop (o + 1) t) ≡ false) where
-    pub tag-empty : get_or t (e - 1) 0 ≡ '/' → skimmed EMPTY o (e + 1) ≡ piece_from o (skim_tag (drop o t))
+    pub tag-empty : get_or t (e - 1) 0 ≡ '/' → skimmed Empty o (e + 1) ≡ piece_from o (skim_tag (drop o t))
+    unfolding kind_of
     tag-empty b = tag_is EMPTY (kind-is ∙ ap₂ (λ (a b : Bool). cond a CLOSE (cond b EMPTY START)) a (eq-eqb _ _ b))
 
-    pub tag-start : (get_or t (e - 1) 0 ≡ '/' → ⊥) → skimmed START o (e + 1) ≡ piece_from o (skim_tag (drop o t))
+    pub tag-start : (get_or t (e - 1) 0 ≡ '/' → ⊥) → skimmed Start o (e + 1) ≡ piece_from o (skim_tag (drop o t))
+    unfolding kind_of
     tag-start b = tag_is START (kind-is ∙ ap₂ (λ (a b : Bool). cond a CLOSE (cond b EMPTY START)) a (ne_eqb _ _ b))
 
 -- ---- a piece, by its first bytes
-pub skim_end : (t : List ℕ) (o : ℕ) → length t ≤ o → skimmed END o o ≡ skim_at t o
-unfolding skim_at skim_of
-skim_end t o l = sym (ap (λ u. piece_from o (skim_of u)) (drop_of_length-le t l) ∙ ap (λ k. skimmed END k k) none)
+pub skim_end : (t : List ℕ) (o : ℕ) → length t ≤ o → skimmed End o o ≡ skim_at t o
+unfolding skim_at skim_of kind_of
+skim_end t o l = sym (ap (λ u. piece_from o (skim_of u)) (drop_of_length-le t l) ∙ ap (λ k. skimmed End k k) none)
   where
     none : o + 0 ≡ o
     none = omega arith
 
 module _ (t : List ℕ) (o : ℕ) (l : o < length t) where
-  pub skim_data_lem : (get_or t o 0 ≡ '<' → ⊥) → (m e : ℕ) → m ≡ o + span low (drop o t) → e ≡ m + span (other '<') (drop m t) → skimmed DATA m e ≡ skim_at t o
-  skim_data_lem h m e p q = ap₂ (skimmed DATA) p far ∙ unfold skim_at skim_data in ap (piece_from o) (sym is)
+  pub skim_data_lem : (get_or t o 0 ≡ '<' → ⊥) → (m e : ℕ) → m ≡ o + span low (drop o t) → e ≡ m + span (other '<') (drop m t) → skimmed Data m e ≡ skim_at t o
+  unfolding kind_of
+  skim_data_lem h m e p q = ap₂ (skimmed Data) p far ∙ unfold skim_at skim_data in ap (piece_from o) (sym is)
     where
       data_of : (x : ℕ) (u : List ℕ) → eqb x '<' ≡ false → skim_of (x ∷ u) ≡ skim_data (x ∷ u)
       data_of x u e = unfold skim_of in rw e
@@ -100,9 +106,9 @@ module _ (t : List ℕ) (o : ℕ) (l : o < length t) where
         row = row_at t o l ∙ ap (λ x. x ∷ drop (o + 1) t) h
 
     pub skim_comment_lem : starts_with ('!' ∷ []) (drop (o + 1) t) ≡ true → (e : ℕ) → e ≡ o + 4 + until ('-' ∷ '-' ∷ []) (drop (o + 4) t) →
-        skimmed COMMENT o (e + 3) ≡ skim_at t o
-    unfolding skim_at skim_comment
-    skim_comment_lem b e p = ap₂ (skimmed COMMENT) none far ∙ ap (piece_from o) (sym is)
+        skimmed Comment o (e + 3) ≡ skim_at t o
+    unfolding skim_at skim_comment kind_of
+    skim_comment_lem b e p = ap₂ (skimmed Comment) none far ∙ ap (piece_from o) (sym is)
       where
         is : skim_of (drop o t) ≡ skim_comment (drop o t)
         is = markup-is ∙ ap (λ (b : Bool). cond b (skim_comment (drop o t)) (skim_tag (drop o t))) b

@@ -1,10 +1,11 @@
 -- What stands at a place of a text, and the loop over a comment's body. Assumes nothing.
---   byte_at, byte-not, none-at whether a byte stands at a place; none does at the end
---   pair-at, -second, -short   whether two bytes do
 --   found                      the byte that was looked for stands where it was found
+--   pair-at, pair-not          whether two bytes stand at a place
 --   until_le, until-run        the bytes before a word are within the row, and go to its first byte at least
 --   Looking w t o i            == the first w from o on is the first from i on
 --   looking_start, -run, -over, -found, -end
+--   Dashes t o i               the same of two dashes, the first `-` from o on at which two may stand being at i, or none
+--   dashes_first, dashes_next  as they are looked for
 -- Letters: t text, w word, y z bytes, o where the loop began, i where it is.
 use Prim.Native.Nat.{ℕ, suc, zero-le, ◌+◌, ◌≤◌, ◌<◌}
 use mathlib.Core.Path.{◌≡◌, refl, sym, ap, ◌∙◌}
@@ -15,9 +16,9 @@ use native.Mathlib.Omega.{arith}
 use lib.Dec.{eqb}
 use lib.ListN.{length, get_or, drop, length-drop, drop_of_length-le}
 use lib.Seq.{drop-drop, get_or-drop}
-use borrow.Author.Tests.{eq-eqb, ne_eqb, eqb-true, not-false}
-use Rattle.seq.proofs.Laws.Bools.{bool_cases, and_both, and_false-left, and_false-right}
-use Rattle.profile.specs.Bytes.{starts_with}
+use borrow.Author.Tests.{eq-eqb, eqb-true, not-false}
+use Rattle.seq.proofs.Laws.Bools.{bool_cases, and_both, and_false-right}
+use Rattle.profile.specs.Bytes.{'-', starts_with}
 use Rattle.profile.specs.Spans.{span, other}
 use Rattle.profile.proofs.Laws.Spans.{span-stops}
 use Rattle.markup.proofs.Reading.{row_at}
@@ -28,33 +29,19 @@ starts-at : (y : ℕ) (w t : List ℕ) (i : ℕ) → i < length t → starts_wit
 unfolding starts_with
 starts-at y w t i l = ap (starts_with (y ∷ w)) (row_at t i l)
 
-module _ (y : ℕ) (t : List ℕ) (i : ℕ) where
-  pub byte_at : i < length t → get_or t i 0 ≡ y → starts_with (y ∷ []) (drop i t) ≡ true
-  unfolding starts_with
-  byte_at l e = starts-at y [] t i l ∙ and_both _ _ (eq-eqb (get_or t i 0) y e) refl
-
-  pub byte-not : i < length t → (get_or t i 0 ≡ y → ⊥) → starts_with (y ∷ []) (drop i t) ≡ false
-  byte-not l e = starts-at y [] t i l ∙ and_false-left _ _ (ne_eqb (get_or t i 0) y e)
-
-  pub none-at : length t ≤ i → starts_with (y ∷ []) (drop i t) ≡ false
-  unfolding starts_with
-  none-at l = ap (starts_with (y ∷ [])) (drop_of_length-le t l)
-
-  pub found : (j : ℕ) → j ≡ i + span (other y) (drop i t) → j < length t → get_or t j 0 ≡ y
-  unfolding other
-  found j p l =
-      eqb-true (get_or t j 0) y
-      (not-false _ (ap (other y) (ap (λ k. get_or t k 0) p ∙ sym (get_or-drop i t (span (other y) (drop i t)) 0)) ∙ span-stops (other y) (drop i t) (omega (arith, length-drop i t))))
+-- The byte that was looked for stands where it was found.
+pub found : (y : ℕ) (t : List ℕ) (i j : ℕ) → j ≡ i + span (other y) (drop i t) → j < length t → get_or t j 0 ≡ y
+unfolding other
+found y t i j p l =
+    eqb-true (get_or t j 0) y
+    (not-false _ (ap (other y) (ap (λ k. get_or t k 0) p ∙ sym (get_or-drop i t (span (other y) (drop i t)) 0)) ∙ span-stops (other y) (drop i t) (omega (arith, length-drop i t))))
 
 module _ (y z : ℕ) (t : List ℕ) (i : ℕ) (l : i < length t) where
-  pub pair-at : i + 1 < length t → get_or t i 0 ≡ y → get_or t (i + 1) 0 ≡ z → starts_with (y ∷ z ∷ []) (drop i t) ≡ true
-  pair-at m e f = starts-at y (z ∷ []) t i l ∙ and_both _ _ (eq-eqb (get_or t i 0) y e) (byte_at z t (i + 1) m f)
+  pub pair-at : get_or t i 0 ≡ y → starts_with (z ∷ []) (drop (i + 1) t) ≡ true → starts_with (y ∷ z ∷ []) (drop i t) ≡ true
+  pair-at e f = starts-at y (z ∷ []) t i l ∙ and_both _ _ (eq-eqb (get_or t i 0) y e) f
 
-  pub pair-second : i + 1 < length t → (get_or t (i + 1) 0 ≡ z → ⊥) → starts_with (y ∷ z ∷ []) (drop i t) ≡ false
-  pair-second m f = starts-at y (z ∷ []) t i l ∙ and_false-right (eqb (get_or t i 0) y) _ (byte-not z t (i + 1) m f)
-
-  pub pair-short : length t ≤ i + 1 → starts_with (y ∷ z ∷ []) (drop i t) ≡ false
-  pair-short m = starts-at y (z ∷ []) t i l ∙ and_false-right (eqb (get_or t i 0) y) _ (none-at z t (i + 1) m)
+  pub pair-not : starts_with (z ∷ []) (drop (i + 1) t) ≡ false → starts_with (y ∷ z ∷ []) (drop i t) ≡ false
+  pair-not f = starts-at y (z ∷ []) t i l ∙ and_false-right (eqb (get_or t i 0) y) _ f
 
 -- ---- the bytes before a word
 pub until_le : (w t : List ℕ) → until w t ≤ length t
@@ -98,3 +85,19 @@ module _ (w t : List ℕ) (o i : ℕ) (r : Looking w t o i) where
 
     pub looking_found : starts_with w (drop i t) ≡ true → i ≡ o + until w (drop o t)
     looking_found e = omega (arith, r.same, here ∙ ap (λ (b : Bool). cond b 0 (suc (until w (drop (i + 1) t)))) e)
+
+-- ---- two dashes
+pub record Dashes (t : List ℕ) (o i : ℕ) : Type 0 where
+  pub looking : Looking ('-' ∷ '-' ∷ []) t o i
+  pub dash : i < length t → get_or t i 0 ≡ '-'
+
+pub dashes_first : (t : List ℕ) (o i : ℕ) → i ≡ o + span (other '-') (drop o t) → Dashes t o i
+dashes_first t o i p = record { looking = looking_run _ _ t o o (looking_start _ t o) i p; dash = found _ t o i p }
+
+pub dashes_next : (t : List ℕ) (o i : ℕ) → Dashes t o i → i < length t → starts_with ('-' ∷ []) (drop (i + 1) t) ≡ false →
+    (j : ℕ) → j ≡ i + 1 + span (other '-') (drop (i + 1) t) → Dashes t o j
+dashes_next t o i d l e j p =
+    record {
+      looking = looking_run _ _ t o (i + 1) (looking_over _ t o i d.looking l (pair-not '-' '-' t i l e)) j p;
+      dash = found _ t (i + 1) j p;
+    }

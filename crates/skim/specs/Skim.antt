@@ -44,6 +44,6 @@ unfoldable pub skim_of : List ℕ → pieces.Piece
 skim_of [] = piece END 0 (stop 0 true)
 skim_of (x ∷ t) = cond (eqb x '<') (cond (starts_with ('!' ∷ []) t) (skim_comment (x ∷ t)) (skim_tag (x ∷ t))) (skim_data (x ∷ t))
 
--- The same at a place of a text; END where the text ends at or before it.
+-- The same at a place of a text; End where the text ends at or before it.
 unfoldable pub skim_at : List ℕ → ℕ → Piece
 skim_at t at = piece_from at (skim_of (drop at t))
