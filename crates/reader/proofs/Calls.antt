@@ -2,19 +2,20 @@
 --   top-…, flush-…, data-…, tag-…, turn-…   for the function of that name
 -- Letters as in specs/Inner. Assumes nothing.
 use Prim.Native.Nat.{ℕ, zero, suc, ◌+◌, ◌-◌, ◌≤◌, ◌<◌}
-use mathlib.Core.Path.{◌≡◌, refl, sym, ap, ap₂, subst, ◌∙◌}
+use mathlib.Core.Path.{◌≡◌, refl, sym, ap, subst, ◌∙◌}
 use mathlib.Core.List.{List}
-use mathlib.Core.Bool.{Bool, true, false, not, cond}
+use mathlib.Core.Bool.{Bool, true, false, cond, ◌||◌}
 use native.Mathlib.Omega.{arith}
+use Rattle.std.specs.Prelude.{Option, None, Some}
 use lib.Dec.{eqb, ltb}
 use lib.ListN.{length, get_or, set, length-set}
-use borrow.Author.Tests.{not-true, not-false, lt-ltb, le-ltb, eq-eqb, ne_eqb, eqb-true}
+use borrow.Author.Tests.{eq-eqb, ne_eqb, eqb-true}
 use Rattle.seq.proofs.Laws.Bools.{cond-true, cond-false}
 use Rattle.profile.specs.Reader.{top}
 use Rattle.profile.specs.Pieces.{DATA, COMMENT, START, CLOSE}
 use Rattle.markup.specs.declared.Piece.{Piece}
-use Rattle.reader.specs.declared.build.State.{State}
-use Rattle.reader.specs.Inner.{Rows, Even, put_node, end_node, NodePre, Store, path_in, blank, flushed_met, flushed_rows, FlushPre, Flushed, data_state, above, node_store, close_store, tag_store, turn_store, Room, TagPre}
+use Rattle.reader.specs.declared.build.Held.{Held}
+use Rattle.reader.specs.Inner.{Rows, Even, put_node, end_node, State, Store, path_in, blank, first_in, last_in, solid_in, above, add_node, NodePre, Room, flushed_met, flushed_rows, flushed_store, longer, data_state, data_store, node_store, close_store, tag_store, turn_store, TagPre}
 
 -- ---- the innermost open element
 pub top-none : (O : List ℕ) (d : ℕ) → d ≡ 0 → 0 ≡ top (path_in O d)
@@ -35,38 +36,46 @@ top-some O (suc d) z = ap (λ i. get_or O i 0) back
 
 -- ---- the data held
 module _ (s : State) where
-  pub solid-met : s.solid ≡ true → flushed_met s ≡ s.met + 1
+  pub solid-met : solid_in s.held ≡ true → flushed_met s ≡ s.met + 1
   unfolding flushed_met
   solid-met e = ap (λ b. cond b (s.met + 1) s.met) e
 
-  pub thin_met : s.solid ≡ false → flushed_met s ≡ s.met
+  pub thin_met : solid_in s.held ≡ false → flushed_met s ≡ s.met
   unfolding flushed_met
   thin_met e = ap (λ b. cond b (s.met + 1) s.met) e
 
   module _ (par : ℕ) (R : Rows) where
-    pub solid-rows : s.solid ≡ true → flushed_rows s par R ≡ put_node s.met par 0 s.first s.last R
+    pub solid-rows : solid_in s.held ≡ true → flushed_rows s par R ≡ put_node s.met par 0 (first_in s.held) (last_in s.held) R
     unfolding flushed_rows
-    solid-rows e = ap (λ b. cond b (put_node s.met par 0 s.first s.last R) R) e
+    solid-rows e = ap (λ b. cond b (put_node s.met par 0 (first_in s.held) (last_in s.held) R) R) e
 
-    pub thin_rows : s.solid ≡ false → flushed_rows s par R ≡ R
+    pub thin_rows : solid_in s.held ≡ false → flushed_rows s par R ≡ R
     unfolding flushed_rows
-    thin_rows e = ap (λ b. cond b (put_node s.met par 0 s.first s.last R) R) e
+    thin_rows e = ap (λ b. cond b (put_node s.met par 0 (first_in s.held) (last_in s.held) R) R) e
 
-    pub flush-node : FlushPre s par R → s.solid ≡ true → NodePre s.met par s.first s.last R
-    flush-node pre e =
-        record {
-          even = pre.even;
-          node = omega (arith, solid-met e, pre.room);
-          parent = pre.parent;
-          first = pre.first;
-          last = pre.last;
-        }
+-- What `flush` leaves: no data is held then.
+module _ (S : Store) (d : Option Held) (e : d ≡ None) where
+  abbrev emptied : Option Held → Store
+  emptied d = record { state = record { depth = S.state.depth; met = S.state.met; held = d }; opens = S.opens; rows = S.rows }
 
-    pub flush-solid : (R' : Rows) → s.solid ≡ true → R' ≡ put_node s.met par 0 s.first s.last R → Flushed s par R (s.met + 1) R'
-    flush-solid R' e q = record { met = sym (solid-met e); rows = q ∙ sym (solid-rows e) }
+  pub flush_thin : solid_in S.state.held ≡ false → emptied d ≡ flushed_store S
+  unfolding flushed_met flushed_rows
+  flush_thin f = rw (e, f)
 
-    pub flush_thin : s.solid ≡ false → Flushed s par R s.met R
-    flush_thin e = record { met = sym (thin_met e); rows = sym (thin_rows e) }
+  pub flush-solid : (h : Held) → S.state.held ≡ Some h → h.solid ≡ true → add_node 0 h.first h.last (emptied d) ≡ flushed_store S
+  unfolding flushed_met flushed_rows
+  flush-solid h i f = rw (e, i, f)
+
+  pub flush-node : Room S → (h : Held) → S.state.held ≡ Some h → h.solid ≡ true → NodePre h.first h.last (emptied d)
+  flush-node w h i f =
+      record {
+        even = w.even;
+        deep = w.deep;
+        node = omega (arith, w.room, solid-met S.state (ap solid_in i ∙ f));
+        above = w.above;
+        first = omega (arith, w.first, ap first_in i);
+        last = omega (arith, w.last, ap last_in i);
+      }
 
 -- ---- rows keep their lengths
 put_node-even : (v par k f l : ℕ) (R : Rows) → Even R → Even (put_node v par k f l R)
@@ -80,125 +89,110 @@ put_node-even v par k f l R e =
 
 pub flushed-even : (s : State) (par : ℕ) (R : Rows) → Even R → Even (flushed_rows s par R)
 unfolding flushed_rows
-flushed-even s par R e = by_test s.solid
+flushed-even s par R e = by_test (solid_in s.held)
   where
-    by_test : (b : Bool) → Even (cond b (put_node s.met par 0 s.first s.last R) R)
-    by_test true = put_node-even s.met par 0 s.first s.last R e
+    by_test : (b : Bool) → Even (cond b (put_node s.met par 0 (first_in s.held) (last_in s.held) R) R)
+    by_test true = put_node-even s.met par 0 (first_in s.held) (last_in s.held) R e
     by_test false = e
 
 pub flushed-long : (s : State) (par : ℕ) (R : Rows) → length (flushed_rows s par R).parents ≡ length R.parents
 unfolding flushed_rows
-flushed-long s par R = by_test s.solid
+flushed-long s par R = by_test (solid_in s.held)
   where
-    by_test : (b : Bool) → length (cond b (put_node s.met par 0 s.first s.last R) R).parents ≡ length R.parents
+    by_test : (b : Bool) → length (cond b (put_node s.met par 0 (first_in s.held) (last_in s.held) R) R).parents ≡ length R.parents
     by_test true = length-set R.parents s.met par
     by_test false = refl
 
 -- ---- data
-module _ (at : ℕ) (p : Piece) (s : State) where
-  pub first-new : (f : ℕ) → not s.held ≡ true → f ≡ at → f ≡ cond s.held s.first at
-  first-new f h e = e ∙ sym (ap (λ b. cond b s.first at) (not-true s.held h))
+module _ (at : ℕ) (p : Piece) where
+  -- The data held with more.
+  pub longer-new : (d : Option Held) → d ≡ None → record { first = at; last = p.end - 1; solid = ltb p.middle p.end } ≡ longer at p d
+  longer-new d e = rw e
 
-  pub first-old : (f : ℕ) → not s.held ≡ false → f ≡ s.first → f ≡ cond s.held s.first at
-  first-old f h e = e ∙ sym (ap (λ b. cond b s.first at) (not-false s.held h))
+  pub longer-old : (d : Option Held) (h : Held) → d ≡ Some h → (b : Bool) → b ≡ (h.solid || ltb p.middle p.end) →
+      record { first = h.first; last = p.end - 1; solid = b } ≡ longer at p d
+  longer-old d h e b f = rw (e, f)
 
-  pub solid-now : (b : Bool) → p.middle < p.end → b ≡ true → b ≡ cond (ltb p.middle p.end) true s.solid
-  solid-now b l e = e ∙ sym (ap (λ a. cond a true s.solid) (lt-ltb p.middle p.end l))
+  module _ (S : Store) where
+    pub data_outside : S.state.depth ≡ 0 → S ≡ data_store at p S
+    unfolding data_state
+    data_outside e = rw (eq-eqb S.state.depth 0 e)
 
-  pub solid-before : (b : Bool) → p.end ≤ p.middle → b ≡ s.solid → b ≡ cond (ltb p.middle p.end) true s.solid
-  solid-before b l e = e ∙ sym (ap (λ a. cond a true s.solid) (le-ltb p.middle p.end l))
-
-  abbrev longer : ℕ → Bool → State
-  longer f b = record { depth = s.depth; met = s.met; held = true; first = f; last = p.end - 1; solid = b }
-
-  pub data_outside : s.depth ≡ 0 → s ≡ data_state at p s
-  unfolding data_state
-  data_outside e = sym (ap (λ b. cond b s (longer (cond s.held s.first at) (cond (ltb p.middle p.end) true s.solid))) (eq-eqb s.depth 0 e))
-
-  pub data_inside : (s.depth ≡ 0 → ⊥) → (f : ℕ) → f ≡ cond s.held s.first at → (b : Bool) → b ≡ cond (ltb p.middle p.end) true s.solid →
-      longer f b ≡ data_state at p s
-  unfolding data_state
-  data_inside e f ef b eb =
-      ap₂ longer ef eb ∙
-      sym (ap (λ b. cond b s (longer (cond s.held s.first at) (cond (ltb p.middle p.end) true s.solid))) (ne_eqb s.depth 0 e))
+    pub data_inside : (S.state.depth ≡ 0 → ⊥) → (h : Held) → h ≡ longer at p S.state.held →
+        record { state = record { depth = S.state.depth; met = S.state.met; held = Some h }; opens = S.opens; rows = S.rows } ≡ data_store at p S
+    unfolding data_state
+    data_inside e h f = rw (f, ne_eqb S.state.depth 0 e)
 
 -- ---- tags
 module _ (S : Store) where
-  pub room-flush : Room S → (v : ℕ) → v ≡ above S → FlushPre S.state v S.rows
-  room-flush w v e =
-      record { even = w.even; room = w.room; parent = omega (arith, w.above); first = w.first; last = w.last }
+  module _ (at : ℕ) (p : Piece) where
+    pub tag-close : p.kind ≡ CLOSE → close_store p S ≡ tag_store at p S
+    unfolding tag_store
+    tag-close k = rw (eq-eqb p.kind CLOSE k)
 
-  -- After the data is written.
-  module _ (v : ℕ) (ev : v ≡ above S) (r : ℕ) (R' : Rows) (f : Flushed S.state v S.rows r R') where
-    pub after-rows : R' ≡ flushed_rows S.state (above S) S.rows
-    after-rows = f.rows ∙ ap (λ v. flushed_rows S.state v S.rows) ev
+    tag-node : (p.kind ≡ CLOSE → ⊥) → node_store at p S ≡ tag_store at p S
+    unfolding tag_store
+    tag-node k = rw (ne_eqb p.kind CLOSE k)
 
-    after-even : Room S → Even R'
-    after-even w = subst Even (sym after-rows) (flushed-even S.state (above S) S.rows w.even)
-
-    after-long : length R'.parents ≡ length S.rows.parents
-    after-long = ap (λ (R : Rows). length R.parents) after-rows ∙ flushed-long S.state (above S) S.rows
-
-    pub tag-node : (at : ℕ) (p : Piece) → TagPre at p S → (p.kind ≡ CLOSE → ⊥) → NodePre r v at (p.end - 1) R'
-    tag-node at p pre k =
+    -- A start tag opens its element, an empty-element tag does not.
+    abbrev noded : ℕ → List ℕ → Store
+    noded d O =
         record {
-          even = after-even pre.ready;
-          node = omega (arith, f.met, pre.node k, after-long);
-          parent = omega (arith, pre.ready.above);
-          first = omega (arith, pre.moves, pre.fits);
-          last = omega (arith, pre.moves, pre.fits);
+          state = blank d (flushed_met S.state + 1);
+          opens = O;
+          rows = put_node (flushed_met S.state) (above S) 1 at (p.end - 1) (flushed_rows S.state (above S) S.rows);
         }
 
-    pub close-node : (at : ℕ) (p : Piece) → TagPre at p S → p.kind ≡ CLOSE → v < length R'.lasts
-    close-node at p pre k = omega (arith, pre.closes k, after-long, (after-even pre.ready).lasts)
+    pub tag-start : (p.kind ≡ CLOSE → ⊥) → p.kind ≡ START → noded (S.state.depth + 1) (set S.opens S.state.depth (flushed_met S.state)) ≡ tag_store at p S
+    tag-start k s =
+        subst (λ b. noded (cond b (S.state.depth + 1) S.state.depth) (cond b (set S.opens S.state.depth (flushed_met S.state)) S.opens) ≡ tag_store at p S)
+        (eq-eqb p.kind START s) (tag-node k)
 
-    pub tag-close : (at : ℕ) (p : Piece) → p.kind ≡ CLOSE → (b : State) → b ≡ blank (S.state.depth - 1) r →
-        ◌≡◌ {A = Store} (record { state = b; opens = S.opens; rows = end_node v (p.end - 1) R' }) (tag_store at p S)
-    unfolding tag_store
-    tag-close at p k b e =
-        ap (λ b. record { state = b; opens = S.opens; rows = end_node v (p.end - 1) R' }) (e ∙ ap (blank (S.state.depth - 1)) f.met) ∙
-        ap₂ (λ v R. record { state = blank (S.state.depth - 1) (flushed_met S.state); opens = S.opens; rows = end_node v (p.end - 1) R }) ev after-rows ∙
-        sym (cond-true (eqb p.kind CLOSE) (eq-eqb p.kind CLOSE k) (close_store p S) (node_store at p S))
+    pub tag-empty : (p.kind ≡ CLOSE → ⊥) → (p.kind ≡ START → ⊥) → noded S.state.depth S.opens ≡ tag_store at p S
+    tag-empty k s =
+        subst (λ b. noded (cond b (S.state.depth + 1) S.state.depth) (cond b (set S.opens S.state.depth (flushed_met S.state)) S.opens) ≡ tag_store at p S)
+        (ne_eqb p.kind START s) (tag-node k)
 
-    module _ (at : ℕ) (p : Piece) (R'' : Rows) (g : R'' ≡ put_node r v 1 at (p.end - 1) R') where
-      node-rows : R'' ≡ (node_store at p S).rows
-      node-rows =
-          g ∙ ap (λ r. put_node r v 1 at (p.end - 1) R') f.met ∙ ap (λ v. put_node (flushed_met S.state) v 1 at (p.end - 1) R') ev ∙
-          ap (λ R. put_node (flushed_met S.state) (above S) 1 at (p.end - 1) R) after-rows
+    -- The steps of `tag`: the data is written, F; then the element's last place, or its node, G, which is open then or not.
+    module _ (F : Store) (e : F ≡ flushed_store S) where
+      pub node-asks : TagPre at p S → (p.kind ≡ CLOSE → ⊥) → NodePre at (p.end - 1) F
+      node-asks pre k = subst (NodePre at (p.end - 1)) (sym e)
+          (record {
+            even = flushed-even S.state (above S) S.rows pre.ready.even;
+            deep = pre.ready.deep;
+            node = omega (arith, pre.node k, flushed-long S.state (above S) S.rows);
+            above = pre.ready.above;
+            first = omega (arith, pre.moves, pre.fits);
+            last = omega (arith, pre.moves, pre.fits);
+          })
 
-      -- The store by the kind of the tag: whether it opens its element.
-      stored : Bool → ℕ → Rows → Store
-      stored b v R =
-          record {
-            state = blank (cond b (S.state.depth + 1) S.state.depth) (v + 1);
-            opens = cond b (set S.opens S.state.depth v) S.opens;
-            rows = R;
-          }
+      pub close-node : TagPre at p S → p.kind ≡ CLOSE → above F < length F.rows.lasts
+      close-node pre k = subst (λ F. above F < length F.rows.lasts) (sym e)
+          (omega (arith, pre.closes k, flushed-long S.state (above S) S.rows, (flushed-even S.state (above S) S.rows pre.ready.even).lasts))
 
-      node_stored : (b : Bool) → eqb p.kind START ≡ b → (p.kind ≡ CLOSE → ⊥) → stored b r R'' ≡ tag_store at p S
-      unfolding tag_store stored
-      node_stored b e k =
-          ap₂ (stored b) f.met node-rows ∙ ap (λ b. stored b (flushed_met S.state) (node_store at p S).rows) (sym e) ∙
-          sym (cond-false (eqb p.kind CLOSE) (ne_eqb p.kind CLOSE k) (close_store p S) (node_store at p S))
+      abbrev closing : ℕ → Store → Store
+      closing v F =
+          record { state = record { depth = F.state.depth - 1; met = F.state.met; held = F.state.held }; opens = F.opens; rows = end_node v (p.end - 1) F.rows }
 
-      pub tag-start : (p.kind ≡ CLOSE → ⊥) → p.kind ≡ START → (b : State) → b ≡ blank (S.state.depth + 1) (r + 1) →
-          ◌≡◌ {A = Store} (record { state = b; opens = set S.opens S.state.depth r; rows = R'' }) (tag_store at p S)
-      unfolding stored
-      tag-start k s b e =
-          ap (λ b. record { state = b; opens = set S.opens S.state.depth r; rows = R'' }) e ∙ node_stored true (eq-eqb p.kind START s) k
+      pub tag-closed : (v : ℕ) → v ≡ above F → p.kind ≡ CLOSE → closing v F ≡ tag_store at p S
+      tag-closed v q k = ap (λ v. closing v F) q ∙ ap (λ F. closing (above F) F) e ∙ tag-close k
 
-      pub tag-empty : (p.kind ≡ CLOSE → ⊥) → (p.kind ≡ START → ⊥) → (b : State) → b ≡ blank S.state.depth (r + 1) →
-          ◌≡◌ {A = Store} (record { state = b; opens = S.opens; rows = R'' }) (tag_store at p S)
-      unfolding stored
-      tag-empty k s b e = ap (λ b. record { state = b; opens = S.opens; rows = R'' }) e ∙ node_stored false (ne_eqb p.kind START s) k
+      abbrev opening : ℕ → Store → Store
+      opening v G =
+          record { state = record { depth = G.state.depth + 1; met = G.state.met; held = G.state.held }; opens = set G.opens G.state.depth v; rows = G.rows }
+
+      module _ (G : Store) (g : G ≡ add_node 1 at (p.end - 1) F) (k : p.kind ≡ CLOSE → ⊥) where
+        pub tag-opened : p.kind ≡ START → opening F.state.met G ≡ tag_store at p S
+        tag-opened s = ap (opening F.state.met) g ∙ ap (λ F. opening F.state.met (add_node 1 at (p.end - 1) F)) e ∙ tag-start k s
+
+        pub tag-emptied : (p.kind ≡ START → ⊥) → G ≡ tag_store at p S
+        tag-emptied s = g ∙ ap (add_node 1 at (p.end - 1)) e ∙ tag-empty k s
 
   -- ---- one piece
   module _ (at : ℕ) (p : Piece) where
-    pub turn_data_lem : p.kind ≡ DATA → (b : State) → b ≡ data_state at p S.state →
-        ◌≡◌ {A = Store} (record { state = b; opens = S.opens; rows = S.rows }) (turn_store at p S)
+    pub turn_data_lem : p.kind ≡ DATA → data_store at p S ≡ turn_store at p S
     unfolding turn_store
-    turn_data_lem k b e =
-        ap (λ b. record { state = b; opens = S.opens; rows = S.rows }) e ∙ sym (cond-true (eqb p.kind DATA) (eq-eqb p.kind DATA k) _ _)
+    turn_data_lem k = sym (cond-true (eqb p.kind DATA) (eq-eqb p.kind DATA k) _ _)
 
     pub turn-comment : p.kind ≡ COMMENT → S ≡ turn_store at p S
     unfolding turn_store

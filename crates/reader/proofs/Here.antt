@@ -13,10 +13,11 @@ use mathlib.Core.Bool.{Bool, true, false, cond, false≢true}
 use mathlib.Core.Option.{some}
 use native.Mathlib.Omega.{arith}
 use native.Mathlib.Numerals.{add-one}
-use lib.Dec.{eqb, ltb}
+use lib.Dec.{eqb}
 use lib.ListN.{length, drop, length-append, length-drop, length-set}
 use lib.Seq.{drop-drop}
 use borrow.Author.Tests.{eq-eqb, ne_eqb, eqb-true, eqb-false}
+use Rattle.std.specs.Prelude.{Option, None, Some}
 use Rattle.profile.specs.Spans.{name_at}
 use Rattle.profile.specs.Machine.{Place, before, b0, between, accepting}
 use Rattle.profile.specs.Tree.{Node}
@@ -35,9 +36,9 @@ use Rattle.markup.specs.declared.Piece.{Piece}
 use Rattle.markup.specs.Pieces.{piece_from, piece_at}
 use Rattle.skim.specs.Skim.{skim_at}
 use Rattle.skim.proofs.Laws.{Agrees, skim_whole}
-use Rattle.reader.specs.declared.build.State.{State}
+use Rattle.reader.specs.declared.build.Held.{Held}
 use Rattle.names.specs.Names.{names}
-use Rattle.reader.specs.Inner.{Rows, rows, Store, path_in, blank, flushed_met, flushed_rows, Flushed, data_state, put_node, above, tag_store, turn_store, Room, TurnPre, mark_of, mark, BuildPre, Built}
+use Rattle.reader.specs.Inner.{Rows, rows, State, Store, path_in, blank, first_in, last_in, flushed_met, longer, data_state, tag_store, turn_store, Room, TurnPre, mark_of, mark, BuildPre, Built}
 use Rattle.reader.proofs.Calls.{tag-close, tag-start, tag-empty, turn_data_lem, turn-comment, turn-tag, turn-middle}
 use Rattle.reader.proofs.Rows.{Sized, written-nil, written-sized, written_all}
 use Rattle.reader.proofs.Depth.{Follows, follows_start, follows_end, follows_data, follows_room, follows_tag, follows_some, follows_close, follows_rest, few}
@@ -67,29 +68,27 @@ module _ (at : ℕ) (p : Piece) (s : State) (k : ℕ) where
   unfolding data_state
   data_depth = by_test (eqb s.depth 0)
     where
-      by_test : (b : Bool) →
-          (cond b s (record { depth = s.depth; met = s.met; held = true; first = cond s.held s.first at; last = p.end - 1; solid = cond (ltb p.middle p.end) true s.solid })).depth ≡ s.depth
+      by_test : (b : Bool) → (cond b s (record { depth = s.depth; met = s.met; held = Some (longer at p s.held) })).depth ≡ s.depth
       by_test true = refl
       by_test false = refl
 
-  data_first : s.first ≤ k → at ≤ k → (data_state at p s).first ≤ k
+  data_first : first_in s.held ≤ k → at ≤ k → first_in (data_state at p s).held ≤ k
   unfolding data_state
-  data_first f a = by_test (eqb s.depth 0) s.held
+  data_first f a = by_test (eqb s.depth 0) s.held f
     where
-      by_test : (b h : Bool) →
-          (cond b s (record { depth = s.depth; met = s.met; held = true; first = cond h s.first at; last = p.end - 1; solid = cond (ltb p.middle p.end) true s.solid })).first ≤ k
-      by_test true h = f
-      by_test false true = f
-      by_test false false = a
+      by_test : (b : Bool) (d : Option Held) → first_in d ≤ k → first_in (cond {A = State} b (record { depth = s.depth; met = s.met; held = d }) (record { depth = s.depth; met = s.met; held = Some (longer at p d) })).held ≤ k
+      by_test true d f = f
+      by_test false None f = a
+      by_test false (Some h) f = f
 
-  data_last : s.last ≤ k → p.end ≤ k → (data_state at p s).last ≤ k
+  data_last : last_in s.held ≤ k → p.end ≤ k → last_in (data_state at p s).held ≤ k
   unfolding data_state
-  data_last l e = by_test (eqb s.depth 0)
+  data_last l e = by_test (eqb s.depth 0) s.held l
     where
-      by_test : (b : Bool) →
-          (cond b s (record { depth = s.depth; met = s.met; held = true; first = cond s.held s.first at; last = p.end - 1; solid = cond (ltb p.middle p.end) true s.solid })).last ≤ k
-      by_test true = l
-      by_test false = omega arith
+      by_test : (b : Bool) (d : Option Held) → last_in d ≤ k → last_in (cond {A = State} b (record { depth = s.depth; met = s.met; held = d }) (record { depth = s.depth; met = s.met; held = Some (longer at p d) })).held ≤ k
+      by_test true d l = l
+      by_test false None l = omega arith
+      by_test false (Some h) l = omega arith
 
 -- ---- the loop
 module _ (T : List ℕ) (R : Rows) where
@@ -101,8 +100,8 @@ module _ (T : List ℕ) (R : Rows) where
     pub mirror : Mirror T R memory S
     pub depth : Follows 64 65536 (length R.parents) S.state.depth at (drop at T)
     pub within : at ≤ length T
-    pub first : S.state.first ≤ length T
-    pub last : S.state.last ≤ length T
+    pub first : first_in S.state.held ≤ length T
+    pub last : last_in S.state.held ≤ length T
     pub opens : length S.opens ≡ 64
     pub deep : S.state.depth ≤ 64
 
@@ -130,7 +129,6 @@ module _ (T : List ℕ) (R : Rows) (pre : BuildPre T R) where
               path = unfold path_in in refl;
               solid = 0;
               held = refl;
-              sound = λ e. e;
               outside = λ e. refl;
               below = λ e h. absurd (none_below e h);
               names = named-nil T;
@@ -295,8 +293,8 @@ module _ (T : List ℕ) (R : Rows) (pre : BuildPre T R) where
       record Turned (S' : Store) : Type 0 where
         mirror : Mirror T R m' S'
         depth : Follows 64 65536 n S'.state.depth (at + q.size) (drop q.size t)
-        first : S'.state.first ≤ length T
-        last : S'.state.last ≤ length T
+        first : first_in S'.state.held ≤ length T
+        last : last_in S'.state.held ≤ length T
         opens : length S'.opens ≡ 64
         deep : S'.state.depth ≤ 64
 
@@ -308,7 +306,7 @@ module _ (T : List ℕ) (R : Rows) (pre : BuildPre T R) where
 
       turned_data : q.kind ≡ DATA → Turned (turn_store at p S)
       turned_data k =
-          subst Turned (turn_data_lem S at p k (data_state at p S.state) refl)
+          subst Turned (turn_data_lem S at p k)
           (record {
             mirror = mirror_data T n R sized w.memory S w.mirror at t q k;
             depth = subst (λ d. Follows 64 65536 n d (at + q.size) (drop q.size t)) (sym (data_depth at p S.state 0)) (follows_data 64 65536 n S.state.depth at t w.depth k);
@@ -325,19 +323,9 @@ module _ (T : List ℕ) (R : Rows) (pre : BuildPre T R) where
         name-mark : mark_of (turns.name_of t q) ≡ 1
         name-mark = (tag-named t k).marked
 
-      -- The rows with the data written.
-      abbrev v : ℕ
-      v = flushed_met S.state
-
-      abbrev R₁ : Rows
-      R₁ = flushed_rows S.state (above S) S.rows
-
-      flushed_it : Flushed S.state (above S) S.rows v R₁
-      flushed_it = record { met = refl; rows = refl }
-
       turned-close : q.kind ≡ CLOSE → Turned (tag_store at p S)
       turned-close k =
-          subst Turned (tag-close S (above S) refl v R₁ flushed_it at p k (blank (S.state.depth - 1) v) refl)
+          subst Turned (tag-close S at p k)
           (record {
             mirror =
                 as_noted _ _ (noted-close at t q w.memory k)
@@ -351,9 +339,7 @@ module _ (T : List ℕ) (R : Rows) (pre : BuildPre T R) where
 
       turned-start : q.kind ≡ START → Turned (tag_store at p S)
       turned-start k =
-          subst Turned
-          (tag-start S (above S) refl v R₁ flushed_it at p (put_node v (above S) 1 at (p.end - 1) R₁) refl (λ e. omega arith) k
-          (blank (S.state.depth + 1) (v + 1)) refl)
+          subst Turned (tag-start S at p (λ e. omega arith) k)
           (record {
             mirror =
                 as_noted _ _ (noted-start at t q w.memory k)
@@ -365,15 +351,13 @@ module _ (T : List ℕ) (R : Rows) (pre : BuildPre T R) where
                 (follows_tag 64 65536 n S.state.depth at t w.depth (inl k));
             first = omega arith;
             last = omega arith;
-            opens = length-set S.opens S.state.depth v ∙ w.opens;
+            opens = length-set S.opens S.state.depth (flushed_met S.state) ∙ w.opens;
             deep = omega (arith, follows_room 64 65536 n S.state.depth at t w.depth (inl k));
           })
 
       turned-empty : q.kind ≡ EMPTY → Turned (tag_store at p S)
       turned-empty k =
-          subst Turned
-          (tag-empty S (above S) refl v R₁ flushed_it at p (put_node v (above S) 1 at (p.end - 1) R₁) refl (λ e. omega arith) (λ e. omega arith)
-          (blank S.state.depth (v + 1)) refl)
+          subst Turned (tag-empty S at p (λ e. omega arith) (λ e. omega arith))
           (record {
             mirror =
                 as_noted _ _ (noted-empty at t q w.memory k)

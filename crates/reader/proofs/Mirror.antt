@@ -1,5 +1,5 @@
 -- The store of the second pass against the memory of `profile`'s reader.
---   held_in c h b f l   == the data held: none (not h), white space from f to l (not b), or solid from its byte c on
+--   held_in c d        == the data held, d, solid from its byte c on where it makes a node
 --   Named T ns         == each node's name is the one that stands behind its first place, or none where its mark is 0
 --   Mirror m S         == the store S is the memory m: its rows are the nodes so far over R
 --   mirror-…           each piece does to the one what it does to the other
@@ -7,7 +7,7 @@
 use Prim.Native.Nat.{ℕ, zero, suc, ◌+◌, ◌-◌, ◌≤◌, ◌<◌}
 use mathlib.Core.Path.{◌≡◌, refl, sym, ap, ap₂, subst, ◌∙◌}
 use mathlib.Core.List.{List, [], ◌∷◌, ◌++◌, map, append-nil}
-use mathlib.Core.Bool.{Bool, true, false, cond, false≢true}
+use mathlib.Core.Bool.{Bool, true, false, cond, ◌||◌, false≢true}
 use mathlib.Core.Option.{none, some}
 use native.Mathlib.Omega.{arith}
 use native.Mathlib.Numerals.{add-one}
@@ -16,6 +16,7 @@ use lib.ListN.{length, get_or, set, length-append}
 use lib.Seq.{get_or-set_same, get_or-set_other}
 use borrow.Author.Tests.{ltb-true, lt-ltb}
 use borrow.Author.Count.{below_more}
+use Rattle.std.specs.Prelude.{Option, None, Some}
 use Rattle.seq.proofs.Laws.Bools.{bool_ext, cond-true, cond-false}
 use Rattle.profile.specs.Spans.{name_at}
 use Rattle.profile.specs.Tree.{Node, node, Held, nothing, held, data_node}
@@ -26,9 +27,9 @@ use Rattle.profile.specs.Pieces as pieces
 use Rattle.profile.specs.Turns as turns
 use Rattle.profile.specs.Notes.{stretched, marked, with_run, holding, noted_data, noted}
 use Rattle.markup.specs.Pieces.{piece_from}
-use Rattle.reader.specs.declared.build.State.{State}
+use Rattle.reader.specs.declared.build.Held.{Held as Data}
 use Rattle.names.specs.Names.{name_of}
-use Rattle.reader.specs.Inner.{Rows, put_node, end_node, Store, path_in, blank, flushed_met, flushed_rows, data_state, above, mark_of, mark}
+use Rattle.reader.specs.Inner.{Rows, put_node, end_node, State, Store, path_in, blank, first_in, last_in, solid_in, above, flushed_met, flushed_rows, longer, data_store, mark_of, mark}
 use Rattle.reader.proofs.Calls.{solid-met, thin_met, solid-rows, thin_rows, data_outside, data_inside}
 use Rattle.reader.proofs.Rows.{map_snoc, map-end_at, Sized, written, written-put, written-end}
 use Rattle.profile.proofs.Went.{end_at-length}
@@ -72,41 +73,42 @@ top_le O zero k h = omega arith
 top_le O (suc d) k h = omega (arith, h d (omega arith))
 
 -- ---- the data held
-abbrev held_in : ℕ → Bool → Bool → ℕ → ℕ → Held
-held_in c false b f l = nothing
-held_in c true false f l = held f l none
-held_in c true true f l = held f l (some c)
+abbrev held_in : ℕ → Option Data → Held
+held_in c None = nothing
+held_in c (Some h) = held h.first h.last (cond h.solid (some c) none)
 
-data_solid : (c : ℕ) (h b : Bool) (f l v k : ℕ) → (b ≡ true → h ≡ true) → b ≡ true → data_node (held_in c h b f l) v k ≡ node v k [] f l c ∷ []
-data_solid c true true f l v k s e = refl
-data_solid c false true f l v k s e = absurd (false≢true (s refl))
-data_solid c h false f l v k s e = absurd (false≢true e)
+data_solid : (c : ℕ) (d : Option Data) (v k : ℕ) → solid_in d ≡ true → data_node (held_in c d) v k ≡ node v k [] (first_in d) (last_in d) c ∷ []
+data_solid c None v k e = absurd (false≢true e)
+data_solid c (Some h) v k e = ap (λ b. data_node (held h.first h.last (cond b (some c) none)) v k) e
 
-data_thin : (c : ℕ) (h b : Bool) (f l v k : ℕ) → b ≡ false → data_node (held_in c h b f l) v k ≡ []
-data_thin c h true f l v k e = absurd (false≢true (sym e))
-data_thin c true false f l v k e = refl
-data_thin c false false f l v k e = refl
-
-run-held : (c : ℕ) (h b : Bool) (f l j w z : ℕ) → (b ≡ true → h ≡ true) →
-    with_run (held_in c h b f l) j w z ≡ held_in (cond b c (j + w)) true (cond (ltb w z) true b) (cond h f j) (j + z - 1)
-unfolding with_run
-run-held c h b f l j w z s = by_test (ltb w z) h b s
-  where
-    by_test : (a h b : Bool) → (b ≡ true → h ≡ true) →
-        cond a (marked (stretched (held_in c h b f l) j (j + z - 1)) (j + w)) (stretched (held_in c h b f l) j (j + z - 1)) ≡
-        held_in (cond b c (j + w)) true (cond a true b) (cond h f j) (j + z - 1)
-    by_test a false true s = absurd (false≢true (s refl))
-    by_test true true true s = refl
-    by_test true true false s = refl
-    by_test true false false s = refl
-    by_test false true true s = refl
-    by_test false true false s = refl
-    by_test false false false s = refl
+data_thin : (c : ℕ) (d : Option Data) (v k : ℕ) → solid_in d ≡ false → data_node (held_in c d) v k ≡ []
+data_thin c None v k e = refl
+data_thin c (Some h) v k e = ap (λ b. data_node (held h.first h.last (cond b (some c) none)) v k) e
 
 ltb-add : (j w z : ℕ) → ltb (j + w) (j + z) ≡ ltb w z
 ltb-add j w z =
     bool_ext (ltb (j + w) (j + z)) (ltb w z) (λ e. lt-ltb w z (omega (arith, ltb-true (j + w) (j + z) e)))
     (λ e. lt-ltb (j + w) (j + z) (omega (arith, ltb-true w z e)))
+
+run-held : (c : ℕ) (d : Option Data) (j : ℕ) (q : pieces.Piece) →
+    with_run (held_in c d) j q.middle q.size ≡ held_in (cond (solid_in d) c (j + q.middle)) (Some (longer j (piece_from j q) d))
+unfolding with_run
+run-held c None j q = rw (ltb-add j q.middle q.size) (by_test (ltb q.middle q.size))
+  where
+    by_test : (a : Bool) →
+        cond a (marked (stretched nothing j (j + q.size - 1)) (j + q.middle)) (stretched nothing j (j + q.size - 1)) ≡
+        held j (j + q.size - 1) (cond a (some (j + q.middle)) none)
+    by_test true = refl
+    by_test false = refl
+run-held c (Some h) j q = rw (ltb-add j q.middle q.size) (by_test (ltb q.middle q.size) h.solid)
+  where
+    by_test : (a b : Bool) →
+        cond a (marked (stretched (held h.first h.last (cond b (some c) none)) j (j + q.size - 1)) (j + q.middle)) (stretched (held h.first h.last (cond b (some c) none)) j (j + q.size - 1)) ≡
+        held h.first (j + q.size - 1) (cond (b || a) (some (cond b c (j + q.middle))) none)
+    by_test true true = refl
+    by_test true false = refl
+    by_test false true = refl
+    by_test false false = refl
 
 -- ---- what is noted
 module _ (at : ℕ) (t : List ℕ) (q : pieces.Piece) (m : Memory) where
@@ -167,9 +169,8 @@ module _ (T : List ℕ) (R : Rows) where
     pub rows : S.rows ≡ written m.nodes R
     pub path : m.path ≡ path_in S.opens S.state.depth
     pub solid : ℕ
-    pub held : m.held ≡ held_in solid S.state.held S.state.solid S.state.first S.state.last
-    pub sound : S.state.solid ≡ true → S.state.held ≡ true
-    pub outside : S.state.depth ≡ 0 → S.state.solid ≡ false
+    pub held : m.held ≡ held_in solid S.state.held
+    pub outside : S.state.depth ≡ 0 → solid_in S.state.held ≡ false
     pub below : (e : ℕ) → e < S.state.depth → get_or S.opens e 0 < S.state.met
     pub names : Named T m.nodes
 
@@ -180,36 +181,36 @@ module _ (T : List ℕ) (n : ℕ) (R : Rows) (sized : Sized n R) where
     level = suc (length m.path)
 
     data_of : Node
-    data_of = node (top m.path) level [] S.state.first S.state.last w.solid
+    data_of = node (top m.path) level [] (first_in S.state.held) (last_in S.state.held) w.solid
 
-    solid-nodes : S.state.solid ≡ true → flushed m ≡ m.nodes ++ (data_of ∷ [])
+    solid-nodes : solid_in S.state.held ≡ true → flushed m ≡ m.nodes ++ (data_of ∷ [])
     unfolding data_of level
     solid-nodes e =
         ap (λ l. m.nodes ++ l)
         (ap (λ h. data_node h (top m.path) level) w.held ∙
-        data_solid w.solid S.state.held S.state.solid S.state.first S.state.last (top m.path) level w.sound e)
+        data_solid w.solid S.state.held (top m.path) level e)
 
-    pub thin_nodes : S.state.solid ≡ false → flushed m ≡ m.nodes
+    pub thin_nodes : solid_in S.state.held ≡ false → flushed m ≡ m.nodes
     unfolding level
     thin_nodes e =
         ap (λ l. m.nodes ++ l)
         (ap (λ h. data_node h (top m.path) level) w.held ∙
-        data_thin w.solid S.state.held S.state.solid S.state.first S.state.last (top m.path) level e) ∙
+        data_thin w.solid S.state.held (top m.path) level e) ∙
         append-nil m.nodes
 
     top-is : above S ≡ top m.path
     top-is = ap top (sym w.path)
 
     pub mirror-met : flushed_met S.state ≡ length (flushed m)
-    mirror-met = by_test S.state.solid refl
+    mirror-met = by_test (solid_in S.state.held) refl
       where
-        by_test : (b : Bool) → S.state.solid ≡ b → flushed_met S.state ≡ length (flushed m)
+        by_test : (b : Bool) → solid_in S.state.held ≡ b → flushed_met S.state ≡ length (flushed m)
         by_test true e = omega (arith, solid-met S.state e, w.met, ap length (solid-nodes e), length-append m.nodes (data_of ∷ []))
         by_test false e = thin_met S.state e ∙ w.met ∙ sym (ap length (thin_nodes e))
 
     pub met_le : S.state.met ≤ flushed_met S.state
     unfolding flushed_met
-    met_le = by_test S.state.solid
+    met_le = by_test (solid_in S.state.held)
       where
         by_test : (b : Bool) → S.state.met ≤ cond b (S.state.met + 1) S.state.met
         by_test true = omega arith
@@ -217,24 +218,24 @@ module _ (T : List ℕ) (n : ℕ) (R : Rows) (sized : Sized n R) where
 
     module _ (fits : length (flushed m) ≤ n) where
       flush-rows : flushed_rows S.state (above S) S.rows ≡ written (flushed m) R
-      flush-rows = by_test S.state.solid refl
+      flush-rows = by_test (solid_in S.state.held) refl
         where
-          by_test : (b : Bool) → S.state.solid ≡ b → flushed_rows S.state (above S) S.rows ≡ written (flushed m) R
+          by_test : (b : Bool) → solid_in S.state.held ≡ b → flushed_rows S.state (above S) S.rows ≡ written (flushed m) R
           by_test true e =
               solid-rows S.state (above S) S.rows e ∙
-              ap₂ (λ v R. put_node S.state.met v 0 S.state.first S.state.last R) top-is w.rows ∙ put ∙ ap (λ l. written l R) (sym (solid-nodes e))
+              ap₂ (λ v R. put_node S.state.met v 0 (first_in S.state.held) (last_in S.state.held) R) top-is w.rows ∙ put ∙ ap (λ l. written l R) (sym (solid-nodes e))
             where
               room : S.state.met < n
               room = omega (arith, solid-met S.state e, mirror-met)
 
-              put : put_node S.state.met (top m.path) 0 S.state.first S.state.last (written m.nodes R) ≡ written (m.nodes ++ (data_of ∷ [])) R
+              put : put_node S.state.met (top m.path) 0 (first_in S.state.held) (last_in S.state.held) (written m.nodes R) ≡ written (m.nodes ++ (data_of ∷ [])) R
               put = unfold data_of in written-put n R sized m.nodes S.state.met w.met room data_of
           by_test false e = thin_rows S.state (above S) S.rows e ∙ w.rows ∙ ap (λ l. written l R) (sym (thin_nodes e))
 
       flush-names : Named T (flushed m)
-      flush-names = by_test S.state.solid refl
+      flush-names = by_test (solid_in S.state.held) refl
         where
-          by_test : (b : Bool) → S.state.solid ≡ b → Named T (flushed m)
+          by_test : (b : Bool) → solid_in S.state.held ≡ b → Named T (flushed m)
           by_test true e = subst (Named T) (sym (solid-nodes e)) (named_more T m.nodes data_of w.names (unfold data_of name_of in refl))
           by_test false e = subst (Named T) (sym (thin_nodes e)) w.names
 
@@ -272,7 +273,6 @@ module _ (T : List ℕ) (n : ℕ) (R : Rows) (sized : Sized n R) where
                   sym (path-push S.opens S.state.depth (flushed_met S.state) deep);
               solid = 0;
               held = refl;
-              sound = λ e. e;
               outside = λ e. refl;
               below =
                   below_more (λ e. get_or (set S.opens S.state.depth (flushed_met S.state)) e 0 < flushed_met S.state + 1) S.state.depth
@@ -296,7 +296,6 @@ module _ (T : List ℕ) (n : ℕ) (R : Rows) (sized : Sized n R) where
               path = w.path;
               solid = 0;
               held = refl;
-              sound = λ e. e;
               outside = λ e. refl;
               below = λ e h. omega (arith, w.below e h, met_le);
               names = tag_names;
@@ -317,7 +316,6 @@ module _ (T : List ℕ) (n : ℕ) (R : Rows) (sized : Sized n R) where
             path = ap popped w.path ∙ path-pop S.opens S.state.depth;
             solid = 0;
             held = refl;
-            sound = λ e. e;
             outside = λ e. refl;
             below = λ e h. omega (arith, w.below e (omega arith), met_le);
             names = named-end_at T (top m.path) l (flushed m) flush-names;
@@ -339,30 +337,27 @@ module _ (T : List ℕ) (n : ℕ) (R : Rows) (sized : Sized n R) where
               path = w.path;
               solid = w.solid;
               held = w.held;
-              sound = w.sound;
               outside = w.outside;
               below = w.below;
               names = w.names;
             }
 
     -- ---- data
-    pub mirror_data : (at : ℕ) (t : List ℕ) (q : pieces.Piece) → q.kind ≡ DATA →
-        Mirror T R (noted at t q m) (record { state = data_state at (piece_from at q) S.state; opens = S.opens; rows = S.rows })
+    pub mirror_data : (at : ℕ) (t : List ℕ) (q : pieces.Piece) → q.kind ≡ DATA → Mirror T R (noted at t q m) (data_store at (piece_from at q) S)
     mirror_data at t q k = by-depth S.state.depth refl
       where
         s : State
         s = S.state
 
-        by-depth : (d : ℕ) → s.depth ≡ d → Mirror T R (noted at t q m) (record { state = data_state at (piece_from at q) s; opens = S.opens; rows = S.rows })
+        by-depth : (d : ℕ) → s.depth ≡ d → Mirror T R (noted at t q m) (data_store at (piece_from at q) S)
         by-depth zero e =
-            subst (λ s. Mirror T R (noted at t q m) (record { state = s; opens = S.opens; rows = S.rows })) (data_outside at (piece_from at q) s e)
+            subst (Mirror T R (noted at t q m)) (data_outside at (piece_from at q) S e)
             (subst (λ m. Mirror T R m S) (sym (noted_data_lem at t q m k ∙ ap (noted_data at q m) none_open)) w)
           where
             none_open : m.path ≡ []
             none_open = w.path ∙ ap (path_in S.opens) e ∙ unfold path_in in refl
         by-depth (suc d) e =
-            subst (λ s. Mirror T R (noted at t q m) (record { state = s; opens = S.opens; rows = S.rows }))
-            (data_inside at (piece_from at q) s (λ z. omega arith) (cond s.held s.first at) refl (cond (ltb (at + q.middle) (at + q.size)) true s.solid) refl)
+            subst (Mirror T R (noted at t q m)) (data_inside at (piece_from at q) S (λ z. omega arith) (longer at (piece_from at q) s.held) refl)
             (subst (λ m. Mirror T R m next) (sym (noted_data_lem at t q m k ∙ ap (noted_data at q m) some_open)) inner)
           where
             some_open : m.path ≡ get_or S.opens d 0 ∷ path_in S.opens d
@@ -371,15 +366,7 @@ module _ (T : List ℕ) (n : ℕ) (R : Rows) (sized : Sized n R) where
             next : Store
             next =
                 record {
-                  state =
-                      record {
-                        depth = s.depth;
-                        met = s.met;
-                        held = true;
-                        first = cond s.held s.first at;
-                        last = at + q.size - 1;
-                        solid = cond (ltb (at + q.middle) (at + q.size)) true s.solid;
-                      };
+                  state = record { depth = s.depth; met = s.met; held = Some (longer at (piece_from at q) s.held) };
                   opens = S.opens;
                   rows = S.rows;
                 }
@@ -390,13 +377,8 @@ module _ (T : List ℕ) (n : ℕ) (R : Rows) (sized : Sized n R) where
                   met = w.met;
                   rows = w.rows;
                   path = w.path;
-                  solid = cond s.solid w.solid (at + q.middle);
-                  held =
-                      ap (λ h. with_run h at q.middle q.size) w.held ∙
-                      run-held w.solid s.held s.solid s.first s.last at q.middle q.size w.sound ∙
-                      ap (λ b. held_in (cond s.solid w.solid (at + q.middle)) true (cond b true s.solid) (cond s.held s.first at) (at + q.size - 1))
-                      (sym (ltb-add at q.middle q.size));
-                  sound = λ e. refl;
+                  solid = cond (solid_in s.held) w.solid (at + q.middle);
+                  held = ap (λ h. with_run h at q.middle q.size) w.held ∙ run-held w.solid s.held at q;
                   outside = λ z. absurd (never z);
                   below = w.below;
                   names = w.names;

@@ -15,7 +15,7 @@ use lib.ListN.{length, length-map, take, drop, length-append, length-drop}
 use lib.Seq.{length-take-le}
 use borrow.Author.Tests.{eq-eqb, ne_eqb, leb-true, leb-false, le-leb, lt-leb, le-ltb}
 use Rattle.seq.specs.Memory.{zeroed, over}
-use Rattle.seq.proofs.Laws.Bools.{and_left, and_right, and_both, and_false-right, cond-true, cond-false}
+use Rattle.seq.proofs.Laws.Bools.{and_left, and_right, and_both, cond-true, cond-false}
 use Rattle.seq.proofs.Laws.Numbers.{less_or}
 use Rattle.index.specs.declared.Reply.{Reply}
 use Rattle.index.specs.Replies.{accepted, SIZE, ROOM, refused, totalled, kept_or}
@@ -37,38 +37,11 @@ use Rattle.reader.specs.Inner.{Rows, rows, mark, BuildPre, Built, FillPre, Fille
 use Rattle.reader.specs.Read.{Lent, lent, fits, fits_in, read_reply, parents_of, tags_in, firsts_of, lasts_of, Reads}
 
 -- ---- room
+-- n entries are a third of the work at most exactly if three times as many fit.
+pub third : (n w : ℕ) → leb n (w / 3) ≡ leb (3 * n) w
+third n w = ⊎_elim (λ (h : w < 3 * n). lt-leb n (w / 3) (omega arith) ∙ sym (lt-leb (3 * n) w h)) (λ (h : 3 * n ≤ w). le-leb n (w / 3) (omega arith) ∙ sym (le-leb (3 * n) w h)) (less_or w (3 * n))
+
 module _ (n p t f l w : ℕ) where
-  pub no_parents : p < n → false ≡ fits n p t f l w
-  unfolding fits
-  no_parents h = rw (lt-leb n p h)
-
-  pub no_tags : t < n → false ≡ fits n p t f l w
-  unfolding fits
-  no_tags h = sym (and_false-right (leb n p) (leb n t && (leb n f && (leb n l && leb (3 * n) w))) (ap (λ b. b && (leb n f && (leb n l && leb (3 * n) w))) (lt-leb n t h)))
-
-  pub no_firsts : f < n → false ≡ fits n p t f l w
-  unfolding fits
-  no_firsts h =
-      sym
-      (and_false-right (leb n p) (leb n t && (leb n f && (leb n l && leb (3 * n) w)))
-      (and_false-right (leb n t) (leb n f && (leb n l && leb (3 * n) w)) (ap (λ b. b && (leb n l && leb (3 * n) w)) (lt-leb n f h))))
-
-  pub no_lasts : l < n → false ≡ fits n p t f l w
-  unfolding fits
-  no_lasts h =
-      sym
-      (and_false-right (leb n p) (leb n t && (leb n f && (leb n l && leb (3 * n) w)))
-      (and_false-right (leb n t) (leb n f && (leb n l && leb (3 * n) w))
-      (and_false-right (leb n f) (leb n l && leb (3 * n) w) (ap (λ b. b && leb (3 * n) w) (lt-leb n l h)))))
-
-  -- n entries are a third of the work at most exactly if three times as many fit.
-  third : leb n (w / 3) ≡ leb (3 * n) w
-  third = ⊎_elim (λ (h : w < 3 * n). lt-leb n (w / 3) (omega arith) ∙ sym (lt-leb (3 * n) w h)) (λ (h : 3 * n ≤ w). le-leb n (w / 3) (omega arith) ∙ sym (le-leb (3 * n) w h)) (less_or w (3 * n))
-
-  pub work-tells : n ≤ p → n ≤ t → n ≤ f → n ≤ l → leb n (w / 3) ≡ fits n p t f l w
-  unfolding fits
-  work-tells a b c d = third ∙ rw (le-leb n p a, le-leb n t b, le-leb n f c, le-leb n l d)
-
   pub has-room_unique : (r r' : Bool) → r ≡ fits n p t f l w → r' ≡ fits n p t f l w → r ≡ r'
   has-room_unique r r' a b = a ∙ sym b
 

@@ -1,14 +1,19 @@
 -- What the functions of this crate ask of and promise each other; no public contract cites it.
 --   Rows              == the four rows of a tree: parents, marks, first and last places; Even: they are equally long
 --   put_node, end_node  == the rows with the entries of a node, with another last place
---   Store             == the state of the second pass, with the numbers of the open elements and the rows
+--   State             == between two pieces: how many elements are open, the nodes written, and the data held
+--   Store             == such a state, with the numbers of the open elements and the rows; rows_of b, store_of b: what a builder holds
+--   SameRows b b'     == two builders borrow the same rows
 --   path_in O d        == the first d numbers of O, the last one first: the open elements, the innermost first
---   flushed_met, flushed_rows   == the nodes written, and the rows, with the node of the data held, if it makes one
+--   first_in, last_in, solid_in   == of the data held: its first and its last place, and whether it makes a node; 0 and no where there is none
+--   add_node          == the store with one node more, a child of the innermost open element
+--   flushed_met, flushed_rows, flushed_store   == the nodes written, the rows, and the store, with the node of the data held, if it makes one
 --   data_state, node_store, close_store, tag_store, turn_store   == what one piece does
 --   mark a            == 1 for an element, 0 for data
+--   RunPre            == such a text, and a store in which nothing is done yet
 --   BuildPre, Built   == what `build` asks: an accepted text, with rows as long as it has nodes; and what it leaves in the rows: its tree
--- Letters: T text; R rows, O a row of open elements, S store, s state; p piece, at a place; v node, par its parent, f l its first and last places. Assumes nothing.
-use Rattle.std.specs.Prelude.{ℕ, zero, suc, ◌+◌, ◌-◌, ◌*◌, ◌≤◌, ◌<◌, ◌≡◌, List, [], ◌∷◌, map, true, false, cond, eqb, ltb, length, get_or, set}
+-- Letters: T text; R rows, O a row of open elements, S store, s state, d data held; p piece, at a place; v node, par its parent, f l its first and last places. Assumes nothing.
+use Rattle.std.specs.Prelude.{ℕ, zero, suc, ◌+◌, ◌-◌, ◌*◌, ◌≤◌, ◌<◌, ◌≡◌, List, [], ◌∷◌, map, Bool, false, cond, ◌||◌, eqb, ltb, length, get_or, set, Option, None, Some}
 use Rattle.seq.specs.Memory.{zeroed}
 use Rattle.profile.specs.Tree.{Node}
 use Rattle.profile.specs.Reader.{top, tree_of}
@@ -17,7 +22,8 @@ use Rattle.profile.specs.Pieces.{DATA, COMMENT, START, CLOSE}
 use Rattle.markup.specs.declared.Piece.{Piece}
 use Rattle.names.specs.Names.{names}
 use Rattle.reader.specs.Read.{Lent, parents_of, tags_in, firsts_of, lasts_of}
-use Rattle.reader.specs.declared.build.State.{State}
+use Rattle.reader.specs.declared.build.Held.{Held}
+use Rattle.reader.specs.declared.build.Builder.{Builder}
 
 -- The length of the longest text that is read.
 abbrev pub longest : ℕ
@@ -45,21 +51,28 @@ put_node v par k f l R = rows (set R.parents v par) (set R.marks v k) (set R.fir
 abbrev pub end_node : ℕ → ℕ → Rows → Rows
 end_node v l R = rows R.parents R.marks R.firsts (set R.lasts v l)
 
-pub record NodePre (v par f l : ℕ) (R : Rows) : Type 0 where
-  pub even : Even R
-  pub node : v < length R.parents
-  pub parent : par ≤ longest
-  pub first : f ≤ longest
-  pub last : l ≤ longest
-
 -- ---- the state
+pub record State : Type 0 where
+  pub depth : ℕ
+  pub met : ℕ
+  pub held : Option Held
+
 pub record Store : Type 0 where
   pub state : State
   pub opens : List ℕ
   pub rows : Rows
 
-abbrev pub store : State → List ℕ → List ℕ → List ℕ → List ℕ → List ℕ → Store
-store s O P M F L = record { state = s; opens = O; rows = rows P M F L }
+abbrev pub rows_of : Builder → Rows
+rows_of b = rows b.parents.now b.marks.now b.firsts.now b.lasts.now
+
+abbrev pub store_of : Builder → Store
+store_of b = record { state = record { depth = b.depth; met = b.met; held = b.held }; opens = b.opens; rows = rows_of b }
+
+pub record SameRows (b b' : Builder) : Type 0 where
+  pub parents : b'.parents.ghost_name ≡ b.parents.ghost_name
+  pub marks : b'.marks.ghost_name ≡ b.marks.ghost_name
+  pub firsts : b'.firsts.ghost_name ≡ b.firsts.ghost_name
+  pub lasts : b'.lasts.ghost_name ≡ b.lasts.ghost_name
 
 unfoldable pub path_in : List ℕ → ℕ → List ℕ
 path_in O zero = []
@@ -70,41 +83,61 @@ pub record TopPre (d : ℕ) (O : List ℕ) : Type 0 where
 
 -- No data is held.
 abbrev pub blank : ℕ → ℕ → State
-blank d v = record { depth = d; met = v; held = false; first = 0; last = 0; solid = false }
+blank d v = record { depth = d; met = v; held = None }
 
-unfoldable pub flushed_met : State → ℕ
-flushed_met s = cond s.solid (s.met + 1) s.met
+abbrev pub first_in : Option Held → ℕ
+first_in None = 0
+first_in (Some h) = h.first
 
-unfoldable pub flushed_rows : State → ℕ → Rows → Rows
-flushed_rows s par R = cond s.solid (put_node s.met par 0 s.first s.last R) R
+abbrev pub last_in : Option Held → ℕ
+last_in None = 0
+last_in (Some h) = h.last
 
-pub record FlushPre (s : State) (par : ℕ) (R : Rows) : Type 0 where
-  pub even : Even R
-  pub room : flushed_met s ≤ length R.parents
-  pub parent : par ≤ longest
-  pub first : s.first ≤ longest
-  pub last : s.last ≤ longest
-
-pub record Flushed (s : State) (par : ℕ) (R : Rows) (r : ℕ) (R' : Rows) : Type 0 where
-  pub met : r ≡ flushed_met s
-  pub rows : R' ≡ flushed_rows s par R
-
--- ---- what one piece does
-unfoldable pub data_state : ℕ → Piece → State → State
-data_state at p s =
-    cond (eqb s.depth 0) s
-    (record {
-      depth = s.depth;
-      met = s.met;
-      held = true;
-      first = cond s.held s.first at;
-      last = p.end - 1;
-      solid = cond (ltb p.middle p.end) true s.solid;
-    })
+abbrev pub solid_in : Option Held → Bool
+solid_in None = false
+solid_in (Some h) = h.solid
 
 -- The parent of the next node.
 abbrev pub above : Store → ℕ
 above S = top (path_in S.opens S.state.depth)
+
+abbrev pub add_node : ℕ → ℕ → ℕ → Store → Store
+add_node k f l S =
+    record {
+      state = record { depth = S.state.depth; met = S.state.met + 1; held = S.state.held };
+      opens = S.opens;
+      rows = put_node S.state.met (above S) k f l S.rows;
+    }
+
+pub record NodePre (f l : ℕ) (S : Store) : Type 0 where
+  pub even : Even S.rows
+  pub deep : S.state.depth ≤ length S.opens
+  pub node : S.state.met < length S.rows.parents
+  pub above : above S ≤ longest
+  pub first : f ≤ longest
+  pub last : l ≤ longest
+
+unfoldable pub flushed_met : State → ℕ
+flushed_met s = cond (solid_in s.held) (s.met + 1) s.met
+
+unfoldable pub flushed_rows : State → ℕ → Rows → Rows
+flushed_rows s par R = cond (solid_in s.held) (put_node s.met par 0 (first_in s.held) (last_in s.held) R) R
+
+abbrev pub flushed_store : Store → Store
+flushed_store S =
+    record { state = blank S.state.depth (flushed_met S.state); opens = S.opens; rows = flushed_rows S.state (above S) S.rows }
+
+-- ---- what one piece does
+-- The data held, with more that goes on from the place `at` to the end of p.
+abbrev pub longer : ℕ → Piece → Option Held → Held
+longer at p None = record { first = at; last = p.end - 1; solid = ltb p.middle p.end }
+longer at p (Some h) = record { first = h.first; last = p.end - 1; solid = h.solid || ltb p.middle p.end }
+
+unfoldable pub data_state : ℕ → Piece → State → State
+data_state at p s = cond (eqb s.depth 0) s (record { depth = s.depth; met = s.met; held = Some (longer at p s.held) })
+
+abbrev pub data_store : ℕ → Piece → Store → Store
+data_store at p S = record { state = data_state at p S.state; opens = S.opens; rows = S.rows }
 
 abbrev pub opens_after : Piece → Store → List ℕ
 opens_after p S = cond (eqb p.kind START) (set S.opens S.state.depth (flushed_met S.state)) S.opens
@@ -135,7 +168,7 @@ tag_store at p S = cond (eqb p.kind CLOSE) (close_store p S) (node_store at p S)
 
 unfoldable pub turn_store : ℕ → Piece → Store → Store
 turn_store at p S =
-    cond (eqb p.kind DATA) (record { state = data_state at p S.state; opens = S.opens; rows = S.rows })
+    cond (eqb p.kind DATA) (data_store at p S)
     (cond (eqb p.kind COMMENT) S (tag_store at p S))
 
 -- ---- what it needs
@@ -145,8 +178,8 @@ pub record Room (S : Store) : Type 0 where
   pub deep : S.state.depth ≤ length S.opens
   pub room : flushed_met S.state ≤ length S.rows.parents
   pub above : above S ≤ longest
-  pub first : S.state.first ≤ longest
-  pub last : S.state.last ≤ longest
+  pub first : first_in S.state.held ≤ longest
+  pub last : last_in S.state.held ≤ longest
 
 pub record TagPre (at : ℕ) (p : Piece) (S : Store) : Type 0 where
   pub ready : Room S
@@ -178,6 +211,12 @@ pub record BuildPre (T : List ℕ) (R : Rows) : Type 0 where
   pub marks : length R.marks ≡ length R.parents
   pub firsts : length R.firsts ≡ length R.parents
   pub lasts : length R.lasts ≡ length R.parents
+
+-- Nothing is done yet.
+pub record RunPre (T : List ℕ) (S : Store) : Type 0 where
+  pub build : BuildPre T S.rows
+  pub state : S.state ≡ blank 0 0
+  pub opens : length S.opens ≡ 64
 
 pub record Built (T : List ℕ) (R' : Rows) : Type 0 where
   pub parents : R'.parents ≡ map (λ a. a.parent) (tree_of T)

@@ -3,203 +3,148 @@
 // data since the last tag is held until the next tag comes: only then it is known where it ends, and whether it makes a node.
 ghost use Rattle.std.specs.Prelude.{◌≡◌, ◌<◌};
 ghost use Rattle.profile.specs.Reader.{top};
-ghost use Rattle.reader.specs.Inner.{rows, store, path_in, blank, data_state, NodePre, put_node, FlushPre, Flushed, TopPre, TagPre, tag_store, TurnPre, turn_store, BuildPre, Built};
+ghost use Rattle.reader.specs.Inner.{rows, store_of, path_in, TopPre, NodePre, add_node, Room, flushed_store, data_store, TagPre, tag_store, TurnPre, turn_store, SameRows, rows_of, RunPre, BuildPre, Built};
 
-// Between two pieces: how many elements are open; the nodes written; and the data since the last tag: whether there is any, the places of its first and its
-// last byte, and whether it makes a node.
+// The data since the last tag: the places of its first and its last byte, and whether it makes a node.
 #[derive(Clone, Copy)]
-pub(crate) struct State {
-    pub depth: usize,
-    pub met: usize,
-    pub held: bool,
-    pub first: usize,
-    pub last: usize,
-    pub solid: bool,
-}
-
-// Behind a tag: no data is held.
-fn behind(depth: usize, met: usize) -> State
-    ensures { result ≡ blank depth met }
-{
-    State {
-        depth,
-        met,
-        held: false,
-        first: 0,
-        last: 0,
-        solid: false,
-    }
-}
-
-// The innermost open element, or 0 where none is open.
-fn top_of(depth: usize, opens: &[usize]) -> usize
-    requires { TopPre depth opens.now }
-    ensures { result ≡ top (path_in opens.now depth) }
-{
-    if depth == 0 {
-        return 0;
-    }
-    opens[depth - 1]
-}
-
-// Writes the entries of one node.
-fn put_node(
-    v: usize,
-    parent: usize,
-    mark: u32,
+struct Held {
     first: usize,
     last: usize,
-    parents: &mut [u32],
-    marks: &mut [u32],
-    firsts: &mut [u32],
-    lasts: &mut [u32],
-)
-    requires { NodePre v parent first last (rows parents.old marks.old firsts.old lasts.old) }
-    ensures { rows parents.new marks.new firsts.new lasts.new ≡
-        put_node v parent mark first last (rows parents.old marks.old firsts.old lasts.old) }
-{
-    parents[v] = parent as u32;
-    marks[v] = mark;
-    firsts[v] = first as u32;
-    lasts[v] = last as u32;
+    solid: bool,
 }
 
-// Writes the node of the data held, if it makes one. Says how many nodes there are then.
-fn flush(
-    s: State,
-    parent: usize,
-    parents: &mut [u32],
-    marks: &mut [u32],
-    firsts: &mut [u32],
-    lasts: &mut [u32],
-) -> usize
-    requires { FlushPre s parent (rows parents.old marks.old firsts.old lasts.old) }
-    ensures { Flushed s parent (rows parents.old marks.old firsts.old lasts.old)
-        result (rows parents.new marks.new firsts.new lasts.new) }
-{
-    if s.solid {
-        put_node(
-            s.met,
-            parent,
-            0,
-            s.first,
-            s.last,
-            &mut *parents,
-            &mut *marks,
-            &mut *firsts,
-            &mut *lasts,
-        );
-        return s.met + 1;
-    }
-    s.met
+// The rows of the nodes, and what is known between two pieces: the open elements, how many they are, the nodes written, and the data held.
+#[derive(Drop)]
+struct Builder<'a> {
+    parents: &'a mut [u32],
+    marks: &'a mut [u32],
+    firsts: &'a mut [u32],
+    lasts: &'a mut [u32],
+    opens: [usize; 64],
+    depth: usize,
+    met: usize,
+    held: Option<Held>,
 }
 
-// Data. Outside the root it is white space, and is not held.
-fn data_turn(at: usize, p: markup::Piece, s: State) -> State
-    requires { «at» < p.end }
-    ensures { result ≡ data_state «at» p s }
-{
-    if s.depth == 0 {
-        return s;
+impl Builder<'_> {
+    // The innermost open element, or 0 where none is open.
+    fn top(&self) -> usize
+        requires { TopPre self.now.depth self.now.opens }
+        ensures { result ≡ top (path_in self.now.opens self.now.depth) }
+    {
+        if self.depth == 0 {
+            0
+        } else {
+            self.opens[self.depth - 1]
+        }
     }
-    let mut first = s.first;
-    if !s.held {
-        first = at;
-    }
-    let mut solid = s.solid;
-    if p.middle < p.end {
-        solid = true;
-    }
-    State {
-        depth: s.depth,
-        met: s.met,
-        held: true,
-        first,
-        last: p.end - 1,
-        solid,
-    }
-}
 
-// A tag: the node of the data before it. An end tag then is the last place of the element that was opened last; another tag has a node of its own, and
-// the element of a start tag is open then.
-fn tag_turn(
-    at: usize,
-    p: markup::Piece,
-    s: State,
-    opens: &mut [usize],
-    parents: &mut [u32],
-    marks: &mut [u32],
-    firsts: &mut [u32],
-    lasts: &mut [u32],
-) -> State
-    requires { TagPre «at» p (store s opens.old parents.old marks.old firsts.old lasts.old) }
-    ensures { store result opens.new parents.new marks.new firsts.new lasts.new ≡
-        tag_store «at» p (store s opens.old parents.old marks.old firsts.old lasts.old) }
-{
-    let depth = s.depth;
-    let top = top_of(depth, opens);
-    let met = flush(
-        s,
-        top,
-        &mut *parents,
-        &mut *marks,
-        &mut *firsts,
-        &mut *lasts,
-    );
-    let last = p.end - 1;
-    if p.kind == markup::CLOSE {
-        lasts[top] = last as u32;
-        return behind(depth - 1, met);
+    // Writes the entries of one node more, a child of the innermost open element.
+    fn put(&mut self, mark: u32, first: usize, last: usize)
+        requires { NodePre first last (store_of self.old) }
+        ensures stored { store_of self.new ≡ add_node mark first last (store_of self.old) }
+        ensures same { SameRows self.old self.new }
+    {
+        let v = self.met;
+        self.parents[v] = self.top() as u32;
+        self.marks[v] = mark;
+        self.firsts[v] = first as u32;
+        self.lasts[v] = last as u32;
+        self.met = v + 1;
     }
-    put_node(
-        met,
-        top,
-        1,
-        at,
-        last,
-        &mut *parents,
-        &mut *marks,
-        &mut *firsts,
-        &mut *lasts,
-    );
-    if p.kind == markup::START {
-        opens[depth] = met;
-        return behind(depth + 1, met + 1);
-    }
-    behind(depth, met + 1)
-}
 
-// What one piece does. A comment does nothing.
-fn take_turn(
-    at: usize,
-    p: markup::Piece,
-    s: State,
-    opens: &mut [usize],
-    parents: &mut [u32],
-    marks: &mut [u32],
-    firsts: &mut [u32],
-    lasts: &mut [u32],
-) -> State
-    requires { TurnPre «at» p (store s opens.old parents.old marks.old firsts.old lasts.old) }
-    ensures { store result opens.new parents.new marks.new firsts.new lasts.new ≡
-        turn_store «at» p (store s opens.old parents.old marks.old firsts.old lasts.old) }
-{
-    if p.kind == markup::DATA {
-        return data_turn(at, p, s);
+    // Writes the node of the data held, if it makes one. None is held then.
+    fn flush(&mut self)
+        requires { Room (store_of self.old) }
+        ensures stored { store_of self.new ≡ flushed_store (store_of self.old) }
+        ensures same { SameRows self.old self.new }
+    {
+        match self.held.take() {
+            Some(held) if held.solid => self.put(0, held.first, held.last),
+            Some(_) | None => {}
+        }
     }
-    if p.kind == markup::COMMENT {
-        return s;
+
+    // Data. Outside the root it is white space, and is not held.
+    fn data(&mut self, at: usize, p: markup::Piece)
+        requires { «at» < p.end }
+        ensures stored { store_of self.new ≡ data_store «at» p (store_of self.old) }
+        ensures same { SameRows self.old self.new }
+    {
+        if self.depth == 0 {
+            return;
+        }
+        let last = p.end - 1;
+        let solid = p.middle < p.end;
+        self.held = Some(match self.held {
+            None => Held {
+                first: at,
+                last,
+                solid,
+            },
+            Some(held) => Held {
+                last,
+                solid: held.solid || solid,
+                ..held
+            },
+        });
     }
-    tag_turn(
-        at,
-        p,
-        s,
-        &mut *opens,
-        &mut *parents,
-        &mut *marks,
-        &mut *firsts,
-        &mut *lasts,
-    )
+
+    // A tag: the node of the data before it. An end tag then is the last place of the element that was opened last; another tag has a node of its own, and
+    // the element of a start tag is open then.
+    fn tag(&mut self, at: usize, p: markup::Piece)
+        requires { TagPre «at» p (store_of self.old) }
+        ensures stored { store_of self.new ≡ tag_store «at» p (store_of self.old) }
+        ensures same { SameRows self.old self.new }
+    {
+        self.flush();
+        let last = p.end - 1;
+        if p.kind == markup::CLOSE {
+            let top = self.top();
+            self.lasts[top] = last as u32;
+            self.depth -= 1;
+            return;
+        }
+        let v = self.met;
+        self.put(1, at, last);
+        if p.kind == markup::START {
+            self.opens[self.depth] = v;
+            self.depth += 1;
+        }
+    }
+
+    // What one piece does. A comment does nothing.
+    fn turn(&mut self, at: usize, p: markup::Piece)
+        requires { TurnPre «at» p (store_of self.old) }
+        ensures stored { store_of self.new ≡ turn_store «at» p (store_of self.old) }
+        ensures same { SameRows self.old self.new }
+    {
+        if p.kind == markup::DATA {
+            self.data(at, p);
+            return;
+        }
+        if p.kind == markup::COMMENT {
+            return;
+        }
+        self.tag(at, p);
+    }
+
+    // Goes over the pieces of a text that is accepted, from its beginning to its end.
+    fn run(&mut self, text: &[u8])
+        requires { RunPre text.now (store_of self.old) }
+        ensures built { Built text.now (rows_of self.new) }
+        ensures same { SameRows self.old self.new }
+    {
+        let mut at: usize = 0;
+        loop {
+            let p = skim::skim_at(text, at);
+            if p.kind == markup::END {
+                return;
+            }
+            self.turn(at, p);
+            at = p.end;
+        }
+    }
 }
 
 // Writes the nodes of a text that is accepted over four rows, each as long as there are nodes.
@@ -213,25 +158,15 @@ pub(crate) fn build(
     requires { BuildPre text.now (rows parents.old marks.old firsts.old lasts.old) }
     ensures { Built text.now (rows parents.new marks.new firsts.new lasts.new) }
 {
-    let mut opens: [usize; 64] = [0; 64];
-    let mut at: usize = 0;
-    let mut s = behind(0, 0);
-    loop {
-        let p = skim::skim_at(text, at);
-        if p.kind == markup::END {
-            return;
-        }
-        let next = p.end;
-        s = take_turn(
-            at,
-            p,
-            s,
-            &mut opens,
-            &mut *parents,
-            &mut *marks,
-            &mut *firsts,
-            &mut *lasts,
-        );
-        at = next;
-    }
+    let mut builder = Builder {
+        parents: &mut *parents,
+        marks: &mut *marks,
+        firsts: &mut *firsts,
+        lasts: &mut *lasts,
+        opens: [0; 64],
+        depth: 0,
+        met: 0,
+        held: None,
+    };
+    builder.run(text);
 }

@@ -9,6 +9,7 @@ ghost use Rattle.reader.specs.Read.{fits, lent, Reads};
 ghost use Rattle.reader.specs.Inner.{FillPre, Filled};
 
 // Whether n nodes fit four rows of these lengths, and three times as many entries the work.
+#[tactic(auto, unfolding(crate::specs::Read::fits), using(crate::proofs::Reading::third))]
 pub fn has_room(
     n: usize,
     parents: usize,
@@ -19,19 +20,7 @@ pub fn has_room(
 ) -> bool
     ensures { result ≡ fits n parents tags firsts lasts work }
 {
-    if parents < n {
-        return false;
-    }
-    if tags < n {
-        return false;
-    }
-    if firsts < n {
-        return false;
-    }
-    if lasts < n {
-        return false;
-    }
-    n <= work / 3
+    n <= parents && n <= tags && n <= firsts && n <= lasts && n <= work / 3
 }
 
 // Writes the nodes of a text that is accepted, over rows that are as long as there are nodes.
@@ -55,6 +44,7 @@ fn fill(
 // SIZE for a text of more than 16,777,216 bytes; then whichever comes first: MARKUP at the first byte at which no text of the profile continues, or TREE at the
 // first node of level 65 or numbered 65,536; last ROOM where a row is shorter than n, or work than 3 * n. A refusal leaves everything as it was.
 // Accepted, the first 3 * n entries of work are 0, and whatever is behind the n nodes stays.
+#[tactic(auto, unfolding(crate::specs::Read::fits))]
 pub fn read(
     text: &[u8],
     parents: &mut [u32],
@@ -71,7 +61,7 @@ pub fn read(
     if r.refusal != index::ACCEPTED {
         return r;
     }
-    let n = seq::widen(r.total);
+    let n = r.total as usize;
     if !has_room(
         n,
         parents.len(),
