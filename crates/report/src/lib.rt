@@ -6,11 +6,11 @@
 mod lines;
 
 ghost use Rattle.std.specs.Prelude.{[]};
-ghost use Rattle.index.specs.Promises.{lent};
+ghost use Rattle.index.specs.Promises.{index_of};
 ghost use Rattle.text.specs.Buffers.{Added};
 ghost use Rattle.report.specs.Lines.{line_text, elca_text, slca_text, pair_text, valid_text};
 
-use index::Reply;
+use index::{Lent, Reply};
 use lines::{put_answer, put_line};
 use text::Writer;
 
@@ -22,124 +22,40 @@ pub fn put_bare(out: &mut Writer<u8>, name: &[u8], reply: Reply)
 }
 
 // The lines of ELCA.
-fn put_elca(
-    parents: &[u32],
-    tags: &[u32],
-    p: u32,
-    ends: &[u32],
-    occurrences: &[u32],
-    counts: &[u32],
-    output: &mut Writer<u8>,
-)
-    ensures { Added (elca_text (lent parents.now tags.now p 0 ends.now occurrences.now
-        counts.now)) output.old output.new }
+fn put_elca(lent: Lent, output: &mut Writer<u8>)
+    ensures { Added (elca_text (index_of lent.entry)) output.old output.new }
 {
     let mut work = [0u32; 2560];
     let mut out = [0u32; 256];
     let mut own = [0u32; 2048];
-    let reply = elca::elca(
-        parents,
-        tags,
-        p,
-        0,
-        ends,
-        occurrences,
-        counts,
-        &mut work,
-        &mut out,
-        &mut own,
-    );
+    let reply = Reply::from(elca::elca(lent, &mut work, &mut out, &mut own));
     put_answer(output, b"elca", reply, &out)
 }
 
 // The lines of SLCA.
-fn put_slca(
-    parents: &[u32],
-    tags: &[u32],
-    p: u32,
-    ends: &[u32],
-    occurrences: &[u32],
-    counts: &[u32],
-    output: &mut Writer<u8>,
-)
-    ensures { Added (slca_text (lent parents.now tags.now p 0 ends.now occurrences.now
-        counts.now)) output.old output.new }
+fn put_slca(lent: Lent, output: &mut Writer<u8>)
+    ensures { Added (slca_text (index_of lent.entry)) output.old output.new }
 {
     let mut work = [0u32; 2560];
     let mut out = [0u32; 256];
-    let reply = slca::slca(
-        parents,
-        tags,
-        p,
-        0,
-        ends,
-        occurrences,
-        counts,
-        &mut work,
-        &mut out,
-    );
+    let reply = Reply::from(slca::slca(lent, &mut work, &mut out));
     put_answer(output, b"slca", reply, &out)
 }
 
 // The lines of ELCA and of SLCA, on one index.
-pub fn put_pair(
-    parents: &[u32],
-    tags: &[u32],
-    p: u32,
-    ends: &[u32],
-    occurrences: &[u32],
-    counts: &[u32],
-    output: &mut Writer<u8>,
-)
-    ensures { Added (pair_text (lent parents.now tags.now p 0 ends.now occurrences.now
-        counts.now)) output.old output.new }
+pub fn put_pair(lent: Lent, output: &mut Writer<u8>)
+    ensures { Added (pair_text (index_of lent.entry)) output.old output.new }
 {
-    put_elca(
-        parents,
-        tags,
-        p,
-        ends,
-        occurrences,
-        counts,
-        &mut *output,
-    );
-    put_slca(
-        parents,
-        tags,
-        p,
-        ends,
-        occurrences,
-        counts,
-        &mut *output,
-    )
+    put_elca(lent, &mut *output);
+    put_slca(lent, &mut *output);
 }
 
 // The lines of valid SLCA.
-pub fn put_valid(
-    parents: &[u32],
-    tags: &[u32],
-    p: u32,
-    q: u32,
-    ends: &[u32],
-    occurrences: &[u32],
-    counts: &[u32],
-    output: &mut Writer<u8>,
-)
-    ensures { Added (valid_text (lent parents.now tags.now p q ends.now occurrences.now
-        counts.now)) output.old output.new }
+pub fn put_valid(lent: Lent, output: &mut Writer<u8>)
+    ensures { Added (valid_text (index_of lent.entry)) output.old output.new }
 {
     let mut work = [0u32; 2560];
     let mut out = [0u32; 256];
-    let reply = valid::valid(
-        parents,
-        tags,
-        p,
-        q,
-        ends,
-        occurrences,
-        counts,
-        &mut work,
-        &mut out,
-    );
+    let reply = Reply::from(valid::valid(lent, &mut work, &mut out));
     put_answer(output, b"valid", reply, &out)
 }
