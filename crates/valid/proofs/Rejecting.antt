@@ -1,17 +1,16 @@
 -- From marks to flags of valid SLCAs, from call to call: the closest entities, the negators, the flags. Assumes nothing.
--- Letters: p parents, t tags, n nodes, k positive words; w four rows as lent, w₁ .. as each call leaves them; a, a part that was lent, as it came back;
--- v node, x occurrence, j word.
+-- Letters: p parents, t tags, n nodes, k positive words; w four rows as lent; g the closest entities with the negators marked, f flags, z zeros, as the calls leave
+-- them; v node, x occurrence, j word.
 use Prim.Native.Nat.{ℕ, zero, suc, ◌+◌, ◌-◌, ◌*◌, ◌≤◌, ◌<◌}
 use mathlib.Core.Path.{◌≡◌, refl, sym, ap, ap₂, ◌∙◌}
 use mathlib.Core.Logic.{⊎_elim}
-use mathlib.Core.List.{List, ◌++◌}
+use mathlib.Core.List.{List, [], ◌++◌, append-nil}
 use mathlib.Core.Bool.{Bool, true, false, cond, ◌&&◌}
 use native.Mathlib.Omega.{arith}
 use borrow.Author.Tests.{eq-eqb, ne_eqb}
-use borrow.Rule.Slice.PartMut.{put_mid}
 use lib.Dec.{eqb}
-use lib.ListN.{length, get_or, take, drop, replicate, length-append, length-drop, length-replicate, get_or-replicate, get_or-append}
-use lib.Seq.{length-take-le, length_front, get_or-take, get_or-drop, get_or-append-add, ext_get_or}
+use lib.ListN.{length, get_or, take, drop, replicate, length-append, length-replicate, get_or-append, drop_of_length-le, replicate-append-replicate}
+use lib.Seq.{take_at, drop_at, ext_get_or}
 use Rattle.seq.specs.Below.{tabulate}
 use Rattle.seq.specs.Lists.{EachBelow}
 use Rattle.seq.specs.Memory.{over}
@@ -20,7 +19,6 @@ use Rattle.seq.proofs.Laws.Below.{Both}
 use Rattle.seq.proofs.Laws.Numbers.{less_or}
 use Rattle.seq.proofs.Laws.Lists.{some_of_ext}
 use Rattle.seq.proofs.Laws.Gather.{length-tabulate, get_d_tabulate}
-use Rattle.seq.proofs.Laws.Parts.{put-long, put-before, put-inside, put-after}
 use Rattle.tree.specs.Tree.{under, child}
 use Rattle.tree.specs.Rules.{text}
 use Rattle.tree.specs.Plain.{Down, Lawful}
@@ -35,7 +33,7 @@ use Rattle.answers.specs.Not.{negator}
 use Rattle.answers.proofs.Laws.Not.{closest_cases, closest-above}
 use Rattle.entities.specs.Closest.{closest_rows}
 use Rattle.types.proofs.Laws.{repeat_fits}
-use Rattle.entities.proofs.Laws.{closest-fit, length-closest_rows}
+use Rattle.entities.proofs.Laws.{closest-fit}
 use Rattle.valid.specs.Inner.Steps.{valid_flag, RejectPre, Rejected}
 use Rattle.valid.specs.Inner.Tops.{negates, NegatePre, NegatorsMarked, flag_here, kept_flag, KeepPre, Kept}
 use Rattle.valid.proofs.Above.{top_of_ext}
@@ -73,226 +71,124 @@ module _ (p t : List ℕ) (law : Lawful p t) where
           none : 0 ≡ x
           none = omega arith
 
-module _ (p t : List ℕ) (k : ℕ) (ends occ w : List ℕ) (pre : RejectPre p t k ends occ w) where
+-- m is the first row and r the other three, as they are lent; a, the other three with the closest entities.
+module _ (p t : List ℕ) (k : ℕ) (ends occ w : List ℕ) (pre : RejectPre p t k ends occ w) (m r : List ℕ) (parts : w ≡ m ++ r) (lm : length m ≡ length p) (a : List ℕ) (ea : a ≡ closest_rows p t r) where
   abbrev n : ℕ
   n = length p
 
-  -- ---- the closest entities, in the last three rows
-  abbrev rest : List ℕ
-  rest = take (length w - n) (drop n w)
+  -- ---- the closest entities
+  abbrev entities : List ℕ
+  entities = tabulate n (closest p t)
 
-  rest-long : length rest ≡ n * 3
-  rest-long = length-take-le (length w - n) (drop n w) (omega (arith, length-drop n w)) ∙ three
+  entities_long : length entities ≡ n
+  entities_long = length-tabulate n (closest p t)
+
+  r_long : length r ≡ n * 3
+  r_long = omega (arith, ap length parts, length-append m r, lm, pre.long)
+
+  a_is : a ≡ entities ++ replicate (n * 2) 0
+  unfolding over
+  a_is =
+      ea ∙ closest-fit p t r (repeat_fits p t (length r) pre.few pre.tagged (omega (arith, r_long)) (lawful-accepted p t pre.tree))
+      ∙ ap (λ (x : List ℕ). (entities ++ replicate (n * 2) 0) ++ x) nothing ∙ append-nil _
     where
-      three : length w - n ≡ n * 3
-      three = omega (arith, pre.long)
+      nothing : drop (length (entities ++ replicate (n * 2) 0)) r ≡ []
+      nothing =
+          drop_of_length-le r {i = length (entities ++ replicate (n * 2) 0)}
+          (omega (arith, r_long, entities_long, length-append entities (replicate (n * 2) 0), length-replicate {A = ℕ} (n * 2) 0))
 
-  module _ (a₁ : List ℕ) (e₁ : a₁ ≡ closest_rows p t rest) where
-    abbrev w₁ : List ℕ
-    w₁ = put_mid n (length w - n) w a₁
+  row_is : take n a ≡ entities
+  row_is = ap (take n) a_is ∙ take_at entities _ n entities_long
 
-    a₁_long : length a₁ ≡ n * 3
-    a₁_long = ap length e₁ ∙ length-closest_rows p t rest ∙ rest-long
+  rest_is : drop n a ≡ replicate (n * 2) 0
+  rest_is = ap (drop n) a_is ∙ drop_at entities _ n entities_long
 
-    a₁_is : a₁ ≡ over (tabulate n (closest p t) ++ replicate (n * 2) 0) rest
-    a₁_is = e₁ ∙ closest-fit p t rest (repeat_fits p t (length rest) pre.few pre.tagged (omega (arith, rest-long)) (lawful-accepted p t pre.tree))
+  row-long : length (take n a) ≡ n
+  row-long = ap length row_is ∙ entities_long
 
-    fits₁ : n + (length w - n) ≤ length w
-    fits₁ = omega (arith, pre.long)
+  row_at : (v : ℕ) → v < n → get_or (take n a) v 0 ≡ closest p t v
+  row_at v l = ap (λ (x : List ℕ). get_or x v 0) row_is ∙ get_d_tabulate n (closest p t) v 0 l
 
-    long₁ : length a₁ ≡ length w - n
-    long₁ = omega (arith, a₁_long, pre.long)
+  -- ---- the negators
+  abbrev begin : ℕ
+  begin = get_or ends (k - 1) 0
 
-    pub reject_long₁ : length w₁ ≡ n * 4
-    reject_long₁ = put-long n (length w - n) w a₁ fits₁ long₁ ∙ pre.long
+  abbrev lists : List ℕ
+  lists = take (length occ - begin) (drop begin occ)
 
-    first₁ : (v : ℕ) → v < n → get_or w₁ v 0 ≡ get_or w v 0
-    first₁ v l = put-before n (length w - n) w a₁ fits₁ long₁ v l
+  all : k + (length ends - k) ≡ length ends
+  all = omega (arith, pre.some_negative)
 
-    closest₁ : (v : ℕ) → v < n → get_or w₁ (n + v) 0 ≡ closest p t v
-    unfolding over
-    closest₁ v l =
-        put-inside n (length w - n) w a₁ fits₁ long₁ v (omega (arith, pre.long)) ∙ ap (λ (x : List ℕ). get_or x v 0) a₁_is
-        ∙ get_or-append (tabulate n (closest p t) ++ replicate (n * 2) 0) _ 0 v (omega (arith, length-append (tabulate n (closest p t)) (replicate (n * 2) 0), length-tabulate n (closest p t)))
-        ∙ get_or-append (tabulate n (closest p t)) _ 0 v (omega (arith, length-tabulate n (closest p t))) ∙ get_d_tabulate n (closest p t) v 0 l
+  lists-below : EachBelow n lists
+  lists-below = stretch-below n ends occ pre.words k (length ends - k) all pre.some_positive begin refl
 
-    zero₁ : (i : ℕ) → i < n * 2 → get_or w₁ (n + (n + i)) 0 ≡ 0
-    unfolding over
-    zero₁ i l =
-        put-inside n (length w - n) w a₁ fits₁ long₁ (n + i) (omega (arith, pre.long)) ∙ ap (λ (x : List ℕ). get_or x (n + i) 0) a₁_is
-        ∙ get_or-append (tabulate n (closest p t) ++ replicate (n * 2) 0) _ 0 (n + i) (omega (arith, length-append (tabulate n (closest p t)) (replicate (n * 2) 0), length-tabulate n (closest p t), length-replicate {A = ℕ} (n * 2) 0))
-        ∙ ap (λ (z : ℕ). get_or (tabulate n (closest p t) ++ replicate (n * 2) 0) (z + i) 0) (sym (length-tabulate n (closest p t))) ∙ get_or-append-add (tabulate n (closest p t)) _ i 0
-        ∙ get_or-replicate (n * 2) i 0 0 l
+  pub reject-mark-pre : NegatePre lists t (take n a)
+  reject-mark-pre = record {
+    few = omega (arith, pre.few, pre.tagged);
+    long = row-long ∙ sym pre.tagged;
+    list = λ i l. omega (arith, lists-below i l, pre.tagged);
+    nodes = λ v l. omega (arith, row_at v (omega (arith, pre.tagged)), closest-node p t pre.tree v (omega (arith, pre.tagged)), pre.tagged);
+    solid = λ x l e q. closest-solid p t pre.tree x (omega (arith, pre.tagged)) e (ap (λ (z : ℕ). get_or t z 0) (sym (row_at x (omega (arith, pre.tagged)))) ∙ q);
+  }
 
-    -- ---- the negators, in the second row
-    abbrev row : List ℕ
-    row = take (n * 2 - n) (drop n w₁)
+  module _ (g : List ℕ) (marked : NegatorsMarked lists t (take n a) g) where
+    abbrev is_negator : ℕ → Bool
+    is_negator = negator p t (length ends - k) λ j. word_list ends occ (k + j)
 
-    row-long : length row ≡ n
-    row-long = length-take-le (n * 2 - n) (drop n w₁) (omega (arith, length-drop n w₁, reject_long₁)) ∙ one
+    negates-is : (v : ℕ) → negates t (take n a) lists v ≡ is_negator v
+    unfolding negates negator
+    negates-is v =
+        some_of_ext _ _ n lists lists-below (λ x l. ap (λ (z : ℕ). text t x && eqb v z) (row_at x l))
+        ∙ stretch-some n ends occ pre.words k (length ends - k) all pre.some_positive begin refl (λ x. text t x && eqb v (closest p t x))
+
+    mark-at : (v : ℕ) → v < n → eqb (get_or m v 0) 1 ≡ slca p k (word_list ends occ) v
+    mark-at v l =
+        ap (λ (z : ℕ). eqb z 1) (sym (ap (λ (x : List ℕ). get_or x v 0) parts ∙ get_or-append m r 0 v (omega (arith, lm)))) ∙ pre.marks v l
+
+    negator-at : (v : ℕ) → v < n → eqb (get_or g v 0) n ≡ is_negator v
+    negator-at v l =
+        ap (λ (z : ℕ). eqb z n) (marked.holds v (omega (arith, pre.tagged)) ∙ ap₂ (λ (b : Bool) (z : ℕ). cond b z (get_or (take n a) v 0)) (negates-is v) pre.tagged)
+        ∙ told (is_negator v)
       where
-        one : n * 2 - n ≡ n
-        one = omega arith
-
-    row_at : (v : ℕ) → v < n → get_or row v 0 ≡ closest p t v
-    row_at v l = get_or-take (n * 2 - n) (drop n w₁) v 0 (omega arith) ∙ get_or-drop n w₁ v 0 ∙ closest₁ v l
-
-    -- `begin` is where the negative words' lists begin, as the code has it.
-    module _ (begin : ℕ) (eb : begin ≡ get_or ends (k - 1) 0) where
-      all : k + (length ends - k) ≡ length ends
-      all = omega (arith, pre.some_negative)
-
-      abbrev lists : List ℕ
-      lists = take (length occ - begin) (drop begin occ)
-
-      lists-below : EachBelow n lists
-      lists-below = stretch-below n ends occ pre.words k (length ends - k) all pre.some_positive begin eb
-
-      pub reject-mark-pre : NegatePre lists t row
-      reject-mark-pre = record {
-        few = omega (arith, pre.few, pre.tagged);
-        long = row-long ∙ sym pre.tagged;
-        list = λ i l. omega (arith, lists-below i l, pre.tagged);
-        nodes = λ v l. omega (arith, row_at v (omega (arith, pre.tagged)), closest-node p t pre.tree v (omega (arith, pre.tagged)), pre.tagged);
-        solid = λ x l e q. closest-solid p t pre.tree x (omega (arith, pre.tagged)) e (ap (λ (z : ℕ). get_or t z 0) (sym (row_at x (omega (arith, pre.tagged)))) ∙ q);
-      }
-
-      module _ (a₂ : List ℕ) (m₂ : NegatorsMarked lists t row a₂) where
-        abbrev w₂ : List ℕ
-        w₂ = put_mid n (n * 2 - n) w₁ a₂
-
-        fits₂ : n + (n * 2 - n) ≤ length w₁
-        fits₂ = omega (arith, reject_long₁)
-
-        long₂ : length a₂ ≡ n * 2 - n
-        long₂ = omega (arith, m₂.long, pre.tagged)
-
-        pub reject_long₂ : length w₂ ≡ n * 4
-        reject_long₂ = put-long n (n * 2 - n) w₁ a₂ fits₂ long₂ ∙ reject_long₁
-
-        pub reject-two : n * 2 ≤ length w₂
-        reject-two = omega (arith, reject_long₂)
-
-        abbrev two : List ℕ
-        two = take (n * 2) w₂
-
-        two-long : length two ≡ n + n
-        two-long = length-take-le (n * 2) w₂ reject-two ∙ double
+        told : (b : Bool) → eqb (cond b n (get_or (take n a) v 0)) n ≡ b
+        told true = eq-eqb n n refl
+        told false = ne_eqb (get_or (take n a) v 0) n (λ (q : get_or (take n a) v 0 ≡ n). inside q)
           where
-            double : n * 2 ≡ n + n
-            double = omega arith
+            inside : get_or (take n a) v 0 ≡ n → ⊥
+            inside q = omega (arith, row_at v l, closest-node p t pre.tree v l)
 
-        abbrev is_negator : ℕ → Bool
-        is_negator = negator p t (length ends - k) λ j. word_list ends occ (k + j)
+    pub reject-keep-pre : KeepPre p k ends occ m g
+    reject-keep-pre = record {
+      few = pre.few;
+      down = down p t pre.tree;
+      few_words = omega (arith, pre.few_words, pre.some_negative);
+      ended = omega (arith, pre.some_negative);
+      words = λ j l. pre.words j (omega (arith, pre.some_negative));
+      long = lm;
+      shut = marked.long ∙ pre.tagged;
+    }
 
-        negates-is : (v : ℕ) → negates t row lists v ≡ is_negator v
-        unfolding negates negator
-        negates-is v =
-            some_of_ext _ _ n lists lists-below (λ x l. ap (λ (z : ℕ). text t x && eqb v z) (row_at x l))
-            ∙ stretch-some n ends occ pre.words k (length ends - k) all pre.some_positive begin eb (λ x. text t x && eqb v (closest p t x))
+    -- ---- the flags
+    flag_is : (v : ℕ) → v < n → kept_flag p k ends occ m g v ≡ valid_flag p t k ends occ v
+    unfolding kept_flag valid_flag
+    flag_is v l =
+        ap (λ (z : ℕ). flag_here z k)
+        (reached_ext _ _ k
+        (λ j h. some_of_ext _ _ n (word_list ends occ j) (pre.words j (omega (arith, pre.some_negative))).list.below
+        (λ x b. ap (λ (z : ℕ). eqb z v) (top_of_ext p (down p t pre.tree) _ is_negator _ (slca p k (word_list ends occ)) negator-at mark-at x b))))
+        ∙ flag-valid p pre.tree.preorder k (word_list ends occ) (λ j h. (pre.words j (omega (arith, pre.some_negative))).list.below) is_negator v l pre.some_positive
 
-        mark-at : (v : ℕ) → v < n → eqb (get_or two v 0) 1 ≡ slca p k (word_list ends occ) v
-        mark-at v l =
-            ap (λ (z : ℕ). eqb z 1) (get_or-take (n * 2) w₂ v 0 (omega arith) ∙ put-before n (n * 2 - n) w₁ a₂ fits₂ long₂ v l ∙ first₁ v l) ∙ pre.marks v l
+    pub reject_rejected : (f z : List ℕ) → Kept p k ends occ m g f z → Rejected p t k ends occ (f ++ (z ++ drop n a))
+    reject_rejected f z kept = record { rows = ap₂ (λ (x y : List ℕ). x ++ y) front back }
+      where
+        front : f ≡ tabulate n (valid_flag p t k ends occ)
+        front =
+            ext_get_or 0 f (tabulate n (valid_flag p t k ends occ)) (kept.long ∙ sym (length-tabulate n (valid_flag p t k ends occ)))
+            (λ v l. kept.flags v (omega (arith, kept.long)) ∙ flag_is v (omega (arith, kept.long)) ∙ sym (get_d_tabulate n (valid_flag p t k ends occ) v 0 (omega (arith, kept.long))))
 
-        negator-at : (v : ℕ) → v < n → eqb (get_or two (n + v) 0) n ≡ is_negator v
-        negator-at v l =
-            ap (λ (z : ℕ). eqb z n)
-            (get_or-take (n * 2) w₂ (n + v) 0 (omega arith) ∙ put-inside n (n * 2 - n) w₁ a₂ fits₂ long₂ v (omega arith) ∙ m₂.holds v (omega (arith, pre.tagged))
-            ∙ ap₂ (λ (b : Bool) (z : ℕ). cond b z (get_or row v 0)) (negates-is v) pre.tagged)
-            ∙ told (is_negator v)
-          where
-            told : (b : Bool) → eqb (cond b n (get_or row v 0)) n ≡ b
-            told true = eq-eqb n n refl
-            told false = ne_eqb (get_or row v 0) n (λ (q : get_or row v 0 ≡ n). inside q)
-              where
-                inside : get_or row v 0 ≡ n → ⊥
-                inside q = omega (arith, row_at v l, closest-node p t pre.tree v l)
+        three : n + n * 2 ≡ n * 3
+        three = omega arith
 
-        pub reject-keep-pre : KeepPre p k ends occ two
-        reject-keep-pre = record {
-          some = pre.some;
-          few = pre.few;
-          down = down p t pre.tree;
-          few_words = omega (arith, pre.few_words, pre.some_negative);
-          ended = omega (arith, pre.some_negative);
-          words = λ j l. pre.words j (omega (arith, pre.some_negative));
-          long = two-long;
-        }
-
-        -- ---- the flags, in the first row
-        flag_is : (v : ℕ) → v < n → kept_flag p k ends occ two v ≡ valid_flag p t k ends occ v
-        unfolding kept_flag valid_flag
-        flag_is v l =
-            ap (λ (z : ℕ). flag_here z k)
-            (reached_ext _ _ k
-            (λ j h. some_of_ext _ _ n (word_list ends occ j) (pre.words j (omega (arith, pre.some_negative))).list.below
-            (λ x b. ap (λ (z : ℕ). eqb z v) (top_of_ext p (down p t pre.tree) _ is_negator _ (slca p k (word_list ends occ)) negator-at mark-at x b))))
-            ∙ flag-valid p pre.tree.preorder k (word_list ends occ) (λ j h. (pre.words j (omega (arith, pre.some_negative))).list.below) is_negator v l pre.some_positive
-
-        module _ (a₃ : List ℕ) (m₃ : Kept p k ends occ two a₃) where
-          abbrev w₃ : List ℕ
-          w₃ = a₃ ++ drop (n * 2) w₂
-
-          a₃_long : length a₃ ≡ n * 2
-          a₃_long = omega (arith, m₃.long)
-
-          pub reject_long₃ : length w₃ ≡ n * 4
-          reject_long₃ = length_front w₂ a₃ (n * 2) (a₃_long ∙ sym (length-take-le (n * 2) w₂ reject-two)) ∙ reject_long₂
-
-          abbrev flags : List ℕ
-          flags = tabulate n (valid_flag p t k ends occ)
-
-          flags_long : length flags ≡ n
-          flags_long = length-tabulate n (valid_flag p t k ends occ)
-
-          -- An entry of the first row, of the second, and of the last two.
-          first₃ : (i : ℕ) → i < n → get_or w₃ i 0 ≡ get_or (flags ++ replicate (n * 3) 0) i 0
-          first₃ i l =
-              get_or-append a₃ _ 0 i (omega (arith, a₃_long)) ∙ m₃.flags i l ∙ flag_is i l
-              ∙ sym (get_or-append flags _ 0 i (omega (arith, flags_long)) ∙ get_d_tabulate n (valid_flag p t k ends occ) i 0 l)
-
-          none₃ : (i : ℕ) → i < n * 3 → get_or (flags ++ replicate (n * 3) 0) (n + i) 0 ≡ 0
-          none₃ i l =
-              ap (λ (z : ℕ). get_or (flags ++ replicate (n * 3) 0) (z + i) 0) (sym flags_long) ∙ get_or-append-add flags _ i 0 ∙ get_or-replicate (n * 3) i 0 0 l
-
-          second₃ : (i : ℕ) → i < n → get_or w₃ (n + i) 0 ≡ 0
-          second₃ i l = get_or-append a₃ _ 0 (n + i) (omega (arith, a₃_long)) ∙ m₃.zeros i l
-
-          last₃ : (i : ℕ) → i < n * 2 → get_or w₃ (n + (n + i)) 0 ≡ 0
-          last₃ i l =
-              ap (λ (z : ℕ). get_or w₃ z 0) front ∙ get_or-append-add a₃ _ i 0 ∙ get_or-drop (n * 2) w₂ i 0 ∙ ap (λ (z : ℕ). get_or w₂ z 0) back
-              ∙ put-after n (n * 2 - n) w₁ a₂ fits₂ long₂ (n + (n + i)) (omega arith) ∙ zero₁ i l
-            where
-              front : n + (n + i) ≡ length a₃ + i
-              front = omega (arith, a₃_long)
-
-              back : n * 2 + i ≡ n + (n + i)
-              back = omega arith
-
-          behind₃ : (i : ℕ) → i < n * 3 → get_or w₃ (n + i) 0 ≡ 0
-          behind₃ i l = ⊎_elim (second₃ i) (λ h. ap (λ (z : ℕ). get_or w₃ (n + z) 0) (past h) ∙ last₃ (i - n) (omega arith)) (less_or i n)
-            where
-              past : n ≤ i → i ≡ n + (i - n)
-              past h = omega arith
-
-          entry₃ : (i : ℕ) → i < length w₃ → get_or w₃ i 0 ≡ get_or (flags ++ replicate (n * 3) 0) i 0
-          entry₃ i l = ⊎_elim (first₃ i) after (less_or i n)
-            where
-              after : n ≤ i → get_or w₃ i 0 ≡ get_or (flags ++ replicate (n * 3) 0) i 0
-              after h =
-                  ap (λ (z : ℕ). get_or w₃ z 0) past ∙ behind₃ (i - n) (omega (arith, reject_long₃)) ∙ sym (none₃ (i - n) (omega (arith, reject_long₃)))
-                  ∙ ap (λ (z : ℕ). get_or (flags ++ replicate (n * 3) 0) z 0) (sym past)
-                where
-                  past : i ≡ n + (i - n)
-                  past = omega arith
-
-          pub reject_rejected : Rejected p t k ends occ w₃
-          reject_rejected = record {
-            rows =
-                ext_get_or 0 w₃ (flags ++ replicate (n * 3) 0)
-                (reject_long₃ ∙ sym (length-append flags (replicate (n * 3) 0) ∙ ap₂ (λ (x y : ℕ). x + y) flags_long (length-replicate {A = ℕ} (n * 3) 0) ∙ four)) entry₃;
-          }
-            where
-              four : n + n * 3 ≡ n * 4
-              four = omega arith
+        back : z ++ drop n a ≡ replicate (n * 3) 0
+        back =
+            ap₂ (λ (x y : List ℕ). x ++ y) kept.zeros rest_is ∙ replicate-append-replicate n (n * 2) 0 ∙ ap (λ (x : ℕ). replicate x 0) three

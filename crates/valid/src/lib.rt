@@ -38,10 +38,12 @@ fn reject(lent: Lent, rows: &mut [u32])
 {
     let n = lent.parents.len();
     let p = lent.positive as usize;
-    entities::find_closest(lent.parents, lent.tags, &mut rows[n..]);
+    let (marks, rest) = rows.split_at_mut(n);
+    entities::find_closest(lent.parents, lent.tags, &mut *rest);
     let from = lent.ends[p - 1] as usize;
-    mark(&lent.occurrences[from..], lent.tags, &mut rows[n..n * 2]);
-    keep(lent.parents, p, lent.ends, lent.occurrences, &mut rows[..n * 2]);
+    let closest = &mut rest[..n];
+    mark(&lent.occurrences[from..], lent.tags, &mut *closest);
+    keep(lent.parents, p, lent.ends, lent.occurrences, marks, closest);
 }
 
 // Lists the nodes that are flagged in the first n entries of work, and clears these.

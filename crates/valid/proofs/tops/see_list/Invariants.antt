@@ -3,4 +3,4 @@ use Rattle.valid.proofs.Pointing.{Seeing}
 use Rattle.valid.proofs.tops.see_list.Given as goal
 
 abbrev pub invariant-loop-x : goal.invariant-loop-x
-invariant-loop-x l = Seeing l.n l.j l.list l.initial.rows l.rows l.x-index
+invariant-loop-x l = Seeing l.j l.list l.tops l.initial.seen l.seen l.x-index

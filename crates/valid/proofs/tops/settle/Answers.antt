@@ -5,4 +5,4 @@ use Rattle.valid.proofs.tops.settle.Goals as goal
 
 pub loop-v-preserved : goal.loop-v-preserved
 loop-v-preserved c =
-    settling-step _ _ _ _ _ c.requires c.loop-v.invariant c.loop-v-test.true _ (c.from.ensures ∙ flag-bit _ _)
+    settling-step _ _ _ _ c.loop-v.invariant c.loop-v-test.true _ (c.from.ensures ∙ flag-bit _ _)
