@@ -16,7 +16,7 @@ ghost use Rattle.build.specs.Build.{Builds};
 ghost use Rattle.build.specs.Build as built;
 
 use engine::Entry;
-use index::Reply;
+use index::{Lent, Reply};
 use reason::Numbers;
 
 // The index check alone.
@@ -33,7 +33,16 @@ pub fn sq_check(
     ensures { Checked (lent parents.now tags.now p q ends.now occurrences.now
         counts.now) work.old result work.new }
 {
-    index::check(parents, tags, p, q, ends, occurrences, counts, work)
+    let lent = Lent {
+        parents,
+        tags,
+        positive: p,
+        negative: q,
+        ends,
+        occurrences,
+        counts,
+    };
+    index::check(lent, work).into()
 }
 
 // ELCA, with own counts.
@@ -52,18 +61,16 @@ pub fn sq_elca(
     ensures { ElcaSearched (lent parents.now tags.now p q ends.now occurrences.now
         counts.now) work.old out.old own.old result work.new out.new own.new }
 {
-    elca::elca(
+    let lent = Lent {
         parents,
         tags,
-        p,
-        q,
+        positive: p,
+        negative: q,
         ends,
         occurrences,
         counts,
-        work,
-        out,
-        own,
-    )
+    };
+    elca::elca(lent, work, out, own).into()
 }
 
 // SLCA.
@@ -81,7 +88,16 @@ pub fn sq_slca(
     ensures { SlcaSearched (lent parents.now tags.now p q ends.now occurrences.now
         counts.now) work.old out.old result work.new out.new }
 {
-    slca::slca(parents, tags, p, q, ends, occurrences, counts, work, out)
+    let lent = Lent {
+        parents,
+        tags,
+        positive: p,
+        negative: q,
+        ends,
+        occurrences,
+        counts,
+    };
+    slca::slca(lent, work, out).into()
 }
 
 // Valid SLCA, the search with NOT.
@@ -99,7 +115,16 @@ pub fn sq_valid(
     ensures { ValidSearched (lent parents.now tags.now p q ends.now occurrences.now
         counts.now) work.old out.old result work.new out.new }
 {
-    valid::valid(parents, tags, p, q, ends, occurrences, counts, work, out)
+    let lent = Lent {
+        parents,
+        tags,
+        positive: p,
+        negative: q,
+        ends,
+        occurrences,
+        counts,
+    };
+    valid::valid(lent, work, out).into()
 }
 
 // ELCA without an index's counts, with own counts.
@@ -152,8 +177,16 @@ pub fn sq_reason(
     ensures { ExplainedInNumbers (lent parents.now tags.now p q ends.now occurrences.now
         counts.now) node work.old result work.new }
 {
-    let e = reason::explain(parents, tags, p, q, ends, occurrences, counts, node, work);
-    reason::in_numbers(e)
+    let lent = Lent {
+        parents,
+        tags,
+        positive: p,
+        negative: q,
+        ends,
+        occurrences,
+        counts,
+    };
+    reason::in_numbers(reason::explain(lent, node, work))
 }
 
 // XML text into parents, tags, and each node's first and last place.
