@@ -3,101 +3,67 @@
 #![tactic(auto)]
 
 ghost use Rattle.std.specs.Prelude.{◌≡◌};
-ghost use Rattle.index.specs.Replies.{accepted, totalled};
-ghost use Rattle.depot.specs.Depot.{depot, depot_size_ok, depot_checked};
+ghost use Rattle.index.specs.Replies.{accepted, totalled, verdict_of};
+ghost use Rattle.depot.specs.Depot.{depot_of, depot_size_ok, depot_checked};
 ghost use Rattle.depot.specs.Inner.{JudgePre, judged};
 
-use index::Reply;
+use index::Refusal;
+
+// The index that a depot lends: one without counts.
+#[derive(Clone, Copy)]
+pub struct Depot<'a> {
+    pub parents: &'a [u32],
+    pub tags: &'a [u32],
+    pub positive: u32,
+    pub negative: u32,
+    pub ends: &'a [u32],
+    pub occurrences: &'a [u32],
+}
 
 // Whether every bound holds and every length is as it must be, for a stack of so many entries.
-fn size_ok(
-    parents: &[u32],
-    tags: &[u32],
-    p: u32,
-    q: u32,
-    ends: &[u32],
-    occurrences: &[u32],
-    long: usize,
-) -> bool
-    ensures { result ≡ depot_size_ok (depot parents.now tags.now p q ends.now
-        occurrences.now) long }
+fn size_ok(depot: Depot, long: usize) -> bool
+    ensures { result ≡ depot_size_ok (depot_of depot.entry) long }
 {
-    let n = parents.len();
-    if n == 0 {
+    let n = depot.parents.len();
+    let p = depot.positive;
+    if n == 0 || 65536 < n {
         return false;
     }
-    if 65536 < n {
+    if p == 0 || 8 < p || depot.negative != 0 {
         return false;
     }
-    if p == 0 {
-        return false;
-    }
-    if 8 < p {
-        return false;
-    }
-    if q != 0 {
-        return false;
-    }
-    if tags.len() != n {
-        return false;
-    }
-    if ends.len() != seq::widen(p) {
+    if depot.tags.len() != n || depot.ends.len() != p as usize {
         return false;
     }
     64 <= long
 }
 
 // TREE and LIST, where nothing gives SIZE.
-fn judge(parents: &[u32], tags: &[u32], ends: &[u32], occurrences: &[u32]) -> Reply
-    requires { JudgePre parents.now ends.now }
-    ensures { result ≡ judged parents.now tags.now ends.now occurrences.now }
+fn judge(depot: Depot) -> Result<(), Refusal>
+    requires { JudgePre (depot_of depot) }
+    ensures { verdict_of result ≡ judged (depot_of depot.entry) }
 {
-    let n = parents.len();
-    let bad_node = tree::tree_bad(parents, tags);
+    let n = depot.parents.len();
+    let bad_node = tree::tree_bad(depot.parents, depot.tags);
     if bad_node < n {
-        return Reply {
-            refusal: index::TREE,
-            place: bad_node as u32,
-            total: 0,
-        };
+        return Err(Refusal::Tree(bad_node as u32));
     }
-    let bad_word = index::lists::lists_bad(ends, occurrences, n);
-    if bad_word < ends.len() {
-        return Reply {
-            refusal: index::LIST,
-            place: bad_word as u32,
-            total: 0,
-        };
+    let bad_word = index::lists::lists_bad(depot.ends, depot.occurrences, n);
+    if bad_word < depot.ends.len() {
+        return Err(Refusal::List(bad_word as u32));
     }
-    Reply {
-        refusal: index::ACCEPTED,
-        place: 0,
-        total: 0,
-    }
+    Ok(())
 }
 
 // What is wrong with the index of a depot, for a search on a stack of so many entries.
-//   1 SIZE   q above 0, a stack of fewer than 64 entries, or as the index check has it, counts and work apart; place 0
-//   2 TREE, 3 LIST   as the index check has them
-//   0        nothing is wrong; place 0, total 0
-pub fn check(
-    parents: &[u32],
-    tags: &[u32],
-    p: u32,
-    q: u32,
-    ends: &[u32],
-    occurrences: &[u32],
-    long: usize,
-) -> Reply
-    ensures { result ≡ depot_checked (depot parents.now tags.now p q ends.now
-        occurrences.now) long (totalled accepted 0) }
+//   Size   q above 0, a stack of fewer than 64 entries, or as the index check has it, counts and work apart
+//   Tree, List   as the index check has them
+//   Ok     nothing is wrong
+pub fn check(depot: Depot, long: usize) -> Result<(), Refusal>
+    ensures { verdict_of result ≡ depot_checked (depot_of depot.entry) long (totalled accepted 0) }
 {
-    if !size_ok(parents, tags, p, q, ends, occurrences, long) {
-        return Reply {
-            refusal: index::SIZE,
-            place: 0,
-            total: 0,
-        };
+    if !size_ok(depot, long) {
+        return Err(Refusal::Size);
     }
-    judge(parents, tags, ends, occurrences)
+    judge(depot)
 }

@@ -11,7 +11,7 @@
 use Prim.Native.Nat.{ℕ, ◌≤◌, ◌<◌}
 use mathlib.Core.Path.{◌≡◌, sym, ap, ◌∙◌}
 use mathlib.Core.Logic.{◌⊎◌, inl, inr, ⊎_elim}
-use mathlib.Core.Bool.{Bool, true, false, not, ◌&&◌}
+use mathlib.Core.Bool.{true, false, not, ◌&&◌}
 use native.Mathlib.Omega.{arith}
 use lib.Dec.{eqb, leb}
 use borrow.Author.Tests.{le-leb, leb-true, eq-eqb, ne_eqb, eqb-true}
@@ -78,8 +78,8 @@ module _ (I : Index) (s : ℕ) where
   sized_no h = bool_false (depot_size_ok I s) (λ e. h (sized_of e))
 
   -- Where all else holds, the stack decides.
-  pub sized-last : (b : Bool) → b ≡ leb 64 s → (64 ≤ s → DepotSized I s) → b ≡ depot_size_ok I s
-  sized-last b e h = bool_ext b (depot_size_ok I s) (λ q. sized-yes (h (leb-true 64 s (sym e ∙ q)))) (λ q. e ∙ le-leb 64 s (sized_of q).stacked)
+  pub sized-last : (64 ≤ s → DepotSized I s) → leb 64 s ≡ depot_size_ok I s
+  sized-last h = bool_ext (leb 64 s) (depot_size_ok I s) (λ q. sized-yes (h (leb-true 64 s q))) (λ q. le-leb 64 s (sized_of q).stacked)
 
 -- ---- the reply where a line of the table is the first that applies
 module _ (I : Index) (s : ℕ) (r : Reply) where
