@@ -1,8 +1,8 @@
 -- The second pass over the words of a text: flags, and the mentions that are left, give what stands.
 --   Flagging, flagging-*   the loop
--- Letters: T text, Q query, h hashes, n nodes, c flags. Assumes nothing.
+-- Letters: T text, Q query, h hashes, n nodes, c flags, p b passes, d mention. Assumes nothing.
 use Prim.Native.Nat.{ℕ, ◌+◌, ◌*◌, ◌<◌}
-use mathlib.Core.Path.{◌≡◌, refl, sym, ap, ◌∙◌}
+use mathlib.Core.Path.{◌≡◌, refl, sym, ap, ap₂, ◌∙◌}
 use mathlib.Core.List.{List, [], ◌∷◌}
 use mathlib.Core.Bool.{Bool, true, false, cond, ◌&&◌, ◌||◌}
 use native.Mathlib.Omega.{arith}
@@ -19,40 +19,40 @@ use Rattle.words.specs.Reading.{word_at}
 use Rattle.words.specs.Scan.{mentions_in}
 use Rattle.words.specs.Stands.{words_on, stands}
 use Rattle.words.proofs.Mentions.{below}
-use Rattle.inplace.specs.declared.Hashed.{Hashed}
-use Rattle.mentions.specs.declared.Seen.{Seen}
+use Rattle.mentions.specs.declared.Pass.{Pass}
+use Rattle.mentions.specs.declared.Mention as lent
+use Rattle.mentions.specs.Walk.{left, Next}
 use Rattle.query.specs.Query.{Query, asked, word_count}
 use Rattle.build.specs.Inner.{Flags, FlagWordsPre, FlagsAll}
 use Rattle.plan.proofs.Texts.{text-kept}
-use Rattle.plan.proofs.Passing.{left, Nexts}
 
 -- What is left, flagged over what is flagged, is what stands.
-pub record Flagging (T : List ℕ) (Q : Query) (n : ℕ) (c : List ℕ) (i : ℕ) (g b : Bool) (v : ℕ) : Type 0 where
-  pub within : every_of (below n) (left T i g b v) ≡ true
+pub record Flagging (T : List ℕ) (Q : Query) (n : ℕ) (c : List ℕ) (p : Pass) : Type 0 where
+  pub within : every_of (below n) (left T p) ≡ true
   pub long : length c ≡ word_count Q * n
-  pub each : (j w : ℕ) → j < word_count Q → w < n → cond (known (words_on T (left T i g b v) w) (asked Q j)) 1 (get_or c (j * n + w) 0) ≡ cond (stands T (asked Q j) w) 1 0
+  pub each : (j w : ℕ) → j < word_count Q → w < n → cond (known (words_on T (left T p) w) (asked Q j)) 1 (get_or c (j * n + w) 0) ≡ cond (stands T (asked Q j) w) 1 0
 
-pub flagging-start : (T : List ℕ) (Q : Query) (h : List ℕ) (n : ℕ) (c : List ℕ) → FlagWordsPre T Q h n c → Flagging T Q n c 0 false false 0
-unfolding mentions_in stands
-flagging-start T Q h n c pre =
+pub flagging-start : (T : List ℕ) (Q : Query) (h : List ℕ) (n : ℕ) (c : List ℕ) (p : Pass) → FlagWordsPre T Q h n c → left T p ≡ mentions_in T → Flagging T Q n c p
+unfolding stands
+flagging-start T Q h n c p pre all =
     record {
-      within = ap (λ (z : ℕ). every_of (below z) (mentions_in T)) pre.pre.nodes ∙ (text-kept T pre.pre.kept).within;
+      within = ap (every_of (below n)) all ∙ ap (λ (z : ℕ). every_of (below z) (mentions_in T)) pre.pre.nodes ∙ (text-kept T pre.pre.kept).within;
       long = pre.pre.long;
-      each = λ j w a l. ap (λ (x : ℕ). cond (known (words_on T (mentions_in T) w) (asked Q j)) 1 x) (ap (λ l. get_or l (j * n + w) 0) pre.clear ∙ blank-at (length c) (j * n + w));
+      each = λ j w a l. ap₂ (λ M (x : ℕ). cond (known (words_on T M w) (asked Q j)) 1 x) all (ap (λ l. get_or l (j * n + w) 0) pre.clear ∙ blank-at (length c) (j * n + w));
     }
 
-module _ (T : List ℕ) (Q : Query) (n : ℕ) (c : List ℕ) (i : ℕ) (g b : Bool) (v : ℕ) (s : Flagging T Q n c i g b v) where
-  pub flagging-end : left T i g b v ≡ [] → FlagsAll T Q n c
+module _ (T : List ℕ) (Q : Query) (n : ℕ) (c : List ℕ) (p : Pass) (s : Flagging T Q n c p) where
+  pub flagging-end : left T p ≡ [] → FlagsAll T Q n c
   unfolding words_on known
   flagging-end e =
       record { long = s.long; each = λ j w a l. sym (ap (λ M. cond (known (words_on T M w) (asked Q j)) 1 (get_or c (j * n + w) 0)) e) ∙ s.each j w a l }
 
-  module _ (d : Seen) (h : Hashed) (x : Nexts T i g b v d h) where
+  module _ (d : lent.Mention) (b : Pass) (x : Next T p d b) where
     abbrev at : ℕ
-    at = v + d.node
+    at = d.node
 
     abbrev behind : List Mention
-    behind = left T h.end d.tag d.solid at
+    behind = left T b
 
     all-inside : (below n (mention at d.place) && every_of (below n) behind) ≡ true
     unfolding every_of
@@ -61,10 +61,10 @@ module _ (T : List ℕ) (Q : Query) (n : ℕ) (c : List ℕ) (i : ℕ) (g b : Bo
     pub flag-below : at < n
     flag-below = ltb-true at n (and_left _ _ all-inside)
 
-    pub flag-fewer : length behind < length (left T i g b v)
+    pub flag-fewer : length behind < length (left T p)
     flag-fewer = omega (arith, ap length x.more)
 
-    module _ (c' : List ℕ) (f : Flags T d.place at Q n c c') where
+    module _ (c' : List ℕ) (f : Flags T d Q n c c') where
       -- One flag: the mention is of this node or not.
       one-flag : (j w : ℕ) → j < word_count Q → w < n →
           cond (known (words_on T behind w) (asked Q j)) 1 (get_or c' (j * n + w) 0) ≡ cond (known (words_on T (mention at d.place ∷ behind) w) (asked Q j)) 1 (get_or c (j * n + w) 0)
@@ -83,7 +83,7 @@ module _ (T : List ℕ) (Q : Query) (n : ℕ) (c : List ℕ) (i : ℕ) (g b : Bo
           by true = both (same_list (word_at T d.place) (asked Q j)) (known (words_on T behind w) (asked Q j)) (get_or c (j * n + w) 0)
           by false = refl
 
-      pub flagging-step : Flagging T Q n c' h.end d.tag d.solid at
+      pub flagging-step : Flagging T Q n c' b
       flagging-step =
           record {
             within = and_right (below n (mention at d.place)) _ all-inside;

@@ -63,9 +63,9 @@ module _ (T : List ℕ) (Q : Query) (z : Sizes) (w : List ℕ) (p : Planned) (s 
     pub few-nodes : n ≤ 65536
     few-nodes = omega (arith, (counted T p.reply judge-is a).few)
 
-    pub rooms : Roomy n (word_count Q) z.parents z.tags z.firsts z.lasts z.work z.ends z.counts
+    pub rooms : Roomy n (word_count Q) z
     unfolding enough roomy
-    rooms = roomy_of _ _ _ _ _ _ _ _ _ (ap (λ n. room_in n Q z) (sym count) ∙ and_left _ _ passed.room)
+    rooms = roomy_of _ _ _ (ap (λ n. room_in n Q z) (sym count) ∙ and_left _ _ passed.room)
 
 -- ---- what is lent
 abbrev tree_lent : Lent → reader.Lent
@@ -102,7 +102,7 @@ module _ (T : List ℕ) (Q : Query) (l : Lent) (p : Planned) (s : List ℕ) (h :
     nodes : length (tree_of T) ≡ n
     nodes = count T Q (sizes l) l.slots p s h a n q
 
-    fit : Roomy n (word_count Q) (length l.parents) (length l.tags) (length l.firsts) (length l.lasts) (length l.work) (length l.ends) (length l.counts)
+    fit : Roomy n (word_count Q) (sizes l)
     fit = rooms T Q (sizes l) l.slots p s h a n q
 
     read_is : t ≡ judge_reply T

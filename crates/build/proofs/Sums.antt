@@ -123,76 +123,74 @@ module _ (c : List ℕ) (a n : ℕ) (fits : a + n ≤ length c) (w : List ℕ) (
       same : drop (a + n) back ≡ drop (a + n) c
       same = sym (drop-drop n a back) ∙ ap (drop n) behind-front ∙ drop_at w (drop n (drop a c)) n l ∙ drop-drop n a c
 
-pub record AllSums (p : List ℕ) (k : ℕ) (c₀ c : List ℕ) (r j : ℕ) : Type 0 where
+pub record AllSums (p : List ℕ) (k : ℕ) (c₀ c : List ℕ) (j : ℕ) : Type 0 where
   pub within : j ≤ k
   pub long : length c ≡ k * length p
-  pub row : r ≡ j * length p
   pub done : (y v : ℕ) → y < j → v < length p → get_or c (y * length p + v) 0 ≡ sum_under p (λ u. get_or c₀ (y * length p + u) 0) v
-  pub rest : (e : ℕ) → r ≤ e → get_or c e 0 ≡ get_or c₀ e 0
+  pub rest : (e : ℕ) → j * length p ≤ e → get_or c e 0 ≡ get_or c₀ e 0
 
-pub all-sums-start : (p : List ℕ) (k : ℕ) (c : List ℕ) → SumRowsPre p k c → AllSums p k c c 0 0
-all-sums-start p k c pre = record { within = zero-le; long = pre.long; row = omega arith; done = λ y v l. absurd (not-suc-le-zero l); rest = λ e l. refl }
+pub all-sums-start : (p : List ℕ) (k : ℕ) (c : List ℕ) → SumRowsPre p k c → AllSums p k c c 0
+all-sums-start p k c pre = record { within = zero-le; long = pre.long; done = λ y v l. absurd (not-suc-le-zero l); rest = λ e l. refl }
 
-module _ (p : List ℕ) (k : ℕ) (c₀ c : List ℕ) (r j : ℕ) (pre : SumRowsPre p k c₀) (s : AllSums p k c₀ c r j) (l : j < k) where
+module _ (p : List ℕ) (k : ℕ) (c₀ c : List ℕ) (j : ℕ) (pre : SumRowsPre p k c₀) (s : AllSums p k c₀ c j) (l : j < k) where
   abbrev n : ℕ
   n = length p
 
-  next_row : r + n ≡ (j + 1) * n
-  next_row = omega (arith, s.row, add-mul j 1 n, one-mul n)
+  abbrev r : ℕ
+  r = j * n
 
-  pub row_fits : r + n ≤ length c
+  next_row : j * length p + length p ≡ (j + 1) * length p
+  next_row = omega (arith, add-mul j 1 n, one-mul n)
+
+  row_fits : r + n ≤ length c
   row_fits = omega (arith, next_row, s.long, mul-le-mul_right {m = j + 1} {n = k} n (omega arith))
 
-  pub row_low : r + n ≤ 524288
-  row_low = omega (arith, next_row, pre.few, pre.words, mul-le-mul_right {m = j + 1} {n = 8} n (omega (arith, pre.words)))
-
-  same-n : r + n - r ≡ n
-  same-n = omega arith
+  same-n : (j + 1) * n - r ≡ n
+  same-n = omega (arith, next_row)
 
   -- The row that is summed.
-  pub row-pre : SumRowPre p (mid_of r (r + n - r) c)
+  pub row-pre : SumRowPre p (mid_of r ((j + 1) * n - r) c)
   row-pre =
       record {
         down = pre.down;
-        long = mid_len r (r + n) c row_fits ∙ same-n;
+        long = mid_len r ((j + 1) * n) c (omega (arith, row_fits, next_row)) ∙ same-n;
         few = pre.few;
-        fits = omega (arith, sum_mono n (λ u. get_or (mid_of r (r + n - r) c) u 0) (λ u. 1) bit, sum_ones n, pre.few);
+        fits = omega (arith, sum_mono n (λ u. get_or (mid_of r ((j + 1) * n - r) c) u 0) (λ u. 1) bit, sum_ones n, pre.few);
       }
     where
-      bit : (u : ℕ) → u < n → get_or (mid_of r (r + n - r) c) u 0 ≤ 1
+      bit : (u : ℕ) → u < n → get_or (mid_of r ((j + 1) * n - r) c) u 0 ≤ 1
       bit u a =
           subst (λ (z : ℕ). z ≤ 1) (sym (ap (λ (z : ℕ). get_or (take z (drop r c)) u 0) same-n ∙ get_or-take n (drop r c) u 0 a ∙ get_or-drop r c u 0 ∙ s.rest (r + u) (omega arith)))
-          (subst (λ (z : ℕ). get_or c₀ (z + u) 0 ≤ 1) (sym s.row) (pre.bits j u l a))
+          (pre.bits j u l a)
 
       sum_ones : (m : ℕ) → sum_below m (λ u. 1) ≡ m
       sum_ones zero = sum-zero _
       sum_ones (suc m) = sum-suc m (λ u. 1) ∙ omega (arith, sum_ones m)
 
-  module _ (w : List ℕ) (q : SumsRow p (mid_of r (r + n - r) c) w) where
-    here-is : put_mid r (r + n - r) c w ≡ back c r n row_fits w q.long
+  module _ (w : List ℕ) (q : SumsRow p (mid_of r ((j + 1) * n - r) c) w) where
+    here-is : put_mid r ((j + 1) * n - r) c w ≡ back c r n row_fits w q.long
     here-is = ap (λ (z : ℕ). take r c ++ (w ++ drop z (drop r c))) same-n
 
-    pub all-sums-step : AllSums p k c₀ (put_mid r (r + n - r) c w) (r + n) (j + 1)
+    pub all-sums-step : AllSums p k c₀ (put_mid r ((j + 1) * n - r) c w) (j + 1)
     all-sums-step =
         record {
           within = omega arith;
           long = ap length here-is ∙ back_long c r n row_fits w q.long ∙ s.long;
-          row = next_row;
-          done = λ y v a b. ap (λ z. get_or z (y * n + v) 0) here-is ∙ ⊎_elim (λ (z : y ≡ j). own y v b z) (λ (z : y < j). back-before c r n row_fits w q.long (y * n + v) (omega (arith, cell_below j n y v z b, s.row)) ∙ s.done y v z b) (split y a);
-          rest = λ e a. ap (λ z. get_or z e 0) here-is ∙ back-behind c r n row_fits w q.long e a ∙ s.rest e (omega arith);
+          done = λ y v a b. ap (λ z. get_or z (y * n + v) 0) here-is ∙ ⊎_elim (λ (z : y ≡ j). own y v b z) (λ (z : y < j). back-before c r n row_fits w q.long (y * n + v) (omega (arith, cell_below j n y v z b)) ∙ s.done y v z b) (split y a);
+          rest = λ e a. ap (λ z. get_or z e 0) here-is ∙ back-behind c r n row_fits w q.long e (omega (arith, next_row)) ∙ s.rest e (omega (arith, next_row));
         }
       where
         split : (y : ℕ) → y < j + 1 → (y ≡ j) ⊎ (y < j)
         split y a = eq-or-lt_of_le (omega arith)
 
-        entry : (u : ℕ) → u < n → get_or (mid_of r (r + n - r) c) u 0 ≡ get_or c₀ (r + u) 0
+        entry : (u : ℕ) → u < n → get_or (mid_of r ((j + 1) * n - r) c) u 0 ≡ get_or c₀ (r + u) 0
         entry u a = ap (λ (z : ℕ). get_or (take z (drop r c)) u 0) same-n ∙ get_or-take n (drop r c) u 0 a ∙ get_or-drop r c u 0 ∙ s.rest (r + u) (omega arith)
 
         own : (y v : ℕ) → v < n → y ≡ j → get_or (back c r n row_fits w q.long) (y * n + v) 0 ≡ sum_under p (λ u. get_or c₀ (y * n + u) 0) v
         own y v b z =
-            let at : r ≡ y * n = s.row ∙ ap (λ (x : ℕ). x * n) (sym z) in
+            let at : r ≡ y * n = ap (λ (x : ℕ). x * n) (sym z) in
             ap (λ (x : ℕ). get_or (back c r n row_fits w q.long) (x + v) 0) (sym at) ∙ back_in c r n row_fits w q.long v b ∙ q.each v b ∙
-            under_ext p (λ u. get_or (mid_of r (r + n - r) c) u 0) (λ u. get_or c₀ (y * n + u) 0) v (λ u a. entry u a ∙ ap (λ (x : ℕ). get_or c₀ (x + u) 0) at)
+            under_ext p (λ u. get_or (mid_of r ((j + 1) * n - r) c) u 0) (λ u. get_or c₀ (y * n + u) 0) v (λ u a. entry u a ∙ ap (λ (x : ℕ). get_or c₀ (x + u) 0) at)
 
-pub all-sums-end : (p : List ℕ) (k : ℕ) (c₀ c : List ℕ) (r j : ℕ) → AllSums p k c₀ c r j → k ≤ j → SumsRows p k c₀ c
-all-sums-end p k c₀ c r j s l = record { long = s.long; each = λ y v a b. s.done y v (omega (arith, s.within)) b }
+pub all-sums-end : (p : List ℕ) (k : ℕ) (c₀ c : List ℕ) (j : ℕ) → AllSums p k c₀ c j → k ≤ j → SumsRows p k c₀ c
+all-sums-end p k c₀ c j s l = record { long = s.long; each = λ y v a b. s.done y v (omega (arith, s.within)) b }

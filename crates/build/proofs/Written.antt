@@ -41,52 +41,45 @@ lists-low c n f zero h = unfold flag_lists in omega arith
 lists-low c n f (suc i) h =
     omega (arith, lists-low c n f i (omega arith), lists-suc c n i, rows-length (row_of c n i), listed_le (length (row_of c n i)) (flagged (row_of c n i)), length-take n (drop (i * n) c))
 
-pub record Writing (c : List ℕ) (n : ℕ) (e₀ o₀ e o : List ℕ) (a r j : ℕ) : Type 0 where
+pub record Writing (c : List ℕ) (n : ℕ) (e₀ o₀ e o : List ℕ) (a j : ℕ) : Type 0 where
   pub within : j ≤ length e₀
   pub long : length e ≡ length e₀
   pub wide : length o ≡ length o₀
-  pub row : r ≡ j * n
   pub at : a ≡ length (flag_lists c n j)
   pub front : take a o ≡ flag_lists c n j
   pub ends : (y : ℕ) → y < j → get_or e y 0 ≡ length (flag_lists c n (suc y))
 
-pub writing_start : (c : List ℕ) (n : ℕ) (e o : List ℕ) → Writing c n e o e o 0 0 0
+pub writing_start : (c : List ℕ) (n : ℕ) (e o : List ℕ) → Writing c n e o e o 0 0
 unfolding flag_lists
-writing_start c n e o = record { within = zero-le; long = refl; wide = refl; row = omega arith; at = refl; front = refl; ends = λ y l. absurd (not-suc-le-zero l) }
+writing_start c n e o = record { within = zero-le; long = refl; wide = refl; at = refl; front = refl; ends = λ y l. absurd (not-suc-le-zero l) }
 
-module _ (c : List ℕ) (n : ℕ) (e₀ o₀ e o : List ℕ) (a r j : ℕ) (pre : ListsPre c n e₀ o₀) (s : Writing c n e₀ o₀ e o a r j) (t : j < length e) where
+module _ (c : List ℕ) (n : ℕ) (e₀ o₀ e o : List ℕ) (a j : ℕ) (pre : ListsPre c n e₀ o₀) (s : Writing c n e₀ o₀ e o a j) (t : j < length e) where
+  abbrev r : ℕ
+  r = j * n
+
   l : j < length e₀
   l = omega (arith, s.long)
 
-  next_row : r + n ≡ (j + 1) * n
-  next_row = omega (arith, s.row, add-mul j 1 n, one-mul n)
+  next_row : j * n + n ≡ (j + 1) * n
+  next_row = omega (arith, add-mul j 1 n, one-mul n)
 
-  pub row_fits : r + n ≤ length c
+  row_fits : r + n ≤ length c
   row_fits = omega (arith, next_row, pre.long, mul-le-mul_right {m = j + 1} {n = length e₀} n (omega (arith, l)))
 
-  pub row_low : r + n ≤ 524288
-  row_low = omega (arith, next_row, pre.few, pre.words, mul-le-mul_right {m = j + 1} {n = 8} n (omega (arith, pre.words, l)))
-
   abbrev fl : List ℕ
-  fl = take (r + n - r) (drop r c)
+  fl = take ((j + 1) * n - r) (drop r c)
 
   fl-is : fl ≡ row_of c n j
-  fl-is = let same : r + n - r ≡ n = omega arith in ap₂ (λ (x y : ℕ). take x (drop y c)) same s.row
+  fl-is = let same : (j + 1) * n - r ≡ n = omega (arith, next_row) in ap (λ (x : ℕ). take x (drop r c)) same
 
   fl-long : length fl ≡ n
-  fl-long = let same : r + n - r ≡ n = omega arith in mid_len r (r + n) c row_fits ∙ same
+  fl-long = let same : (j + 1) * n - r ≡ n = omega (arith, next_row) in mid_len r ((j + 1) * n) c (omega (arith, row_fits, next_row)) ∙ same
 
   -- The list fits what is left.
   fits : a + length (flagged_rows fl) ≤ length o
   fits =
       let more : suc j + (length e₀ - suc j) ≡ length e₀ = omega (arith, l) in
       omega (arith, s.at, s.wide, pre.room, ap (λ z. length (flagged_rows z)) fl-is, lists-suc c n j, lists_le c n (suc j) (length e₀ - suc j), ap (λ (z : ℕ). length (flag_lists c n z)) more)
-
-  pub at_low : a ≤ 524288
-  at_low = omega (arith, s.at, lists-low c n pre.few j (omega (arith, pre.words, l)))
-
-  pub at-fits : a ≤ length o
-  at-fits = omega (arith, fits)
 
   abbrev part : List ℕ
   part = mid_of a (length o - a) o
@@ -114,13 +107,12 @@ module _ (c : List ℕ) (n : ℕ) (e₀ o₀ e o : List ℕ) (a r j : ℕ) (pre 
     pub next_low : a + length (flagged_rows fl) ≤ 524288
     next_low = omega (arith, next-at, lists-low c n pre.few (suc j) (omega (arith, pre.words, l)))
 
-    pub writing_step : (b y : ℕ) → b ≡ a + y → y ≡ x.total → Writing c n e₀ o₀ (set e j b) (put_mid a (length o - a) o out) b (r + n) (j + 1)
+    pub writing_step : (b y : ℕ) → b ≡ a + y → y ≡ x.total → Writing c n e₀ o₀ (set e j b) (put_mid a (length o - a) o out) b (j + 1)
     writing_step b y p h =
         record {
           within = omega (arith, l);
           long = length-set e j b ∙ s.long;
           wide = same_len_mid a (length o - a) o out (ap length out-is ∙ over-long) ∙ s.wide;
-          row = next_row;
           at = at_next;
           front = ap (λ (z : ℕ). take z (put_mid a (length o - a) o out)) to ∙ front-next;
           ends = λ y m. ⊎_elim
@@ -158,8 +150,8 @@ module _ (c : List ℕ) (n : ℕ) (e₀ o₀ e o : List ℕ) (a r j : ℕ) (pre 
             last : flag_lists c n j ++ flagged_rows (row_of c n j) ≡ flag_lists c n (j + 1)
             last = let one : suc j ≡ j + 1 = omega arith in lists-next c n j ∙ ap (flag_lists c n) one
 
-pub writing-end : (c : List ℕ) (n : ℕ) (e₀ o₀ e o : List ℕ) (a r j : ℕ) → ListsPre c n e₀ o₀ → Writing c n e₀ o₀ e o a r j → length e ≤ j → ListsWritten c n e₀ o₀ e o
-writing-end c n e₀ o₀ e o a r j pre s l =
+pub writing-end : (c : List ℕ) (n : ℕ) (e₀ o₀ e o : List ℕ) (a j : ℕ) → ListsPre c n e₀ o₀ → Writing c n e₀ o₀ e o a j → length e ≤ j → ListsWritten c n e₀ o₀ e o
+writing-end c n e₀ o₀ e o a j pre s l =
     record {
       ends = ext_get_or 0 e (tabulate (length e₀) (λ i. length (flag_lists c n (suc i)))) (s.long ∙ sym (length-tabulate (length e₀) _))
           (λ y h. s.ends y (omega (arith, s.long)) ∙ sym (get_d_tabulate (length e₀) (λ i. length (flag_lists c n (suc i))) y 0 (omega (arith, s.long))));

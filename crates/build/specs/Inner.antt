@@ -3,7 +3,7 @@
 --   row_of c n j          == word j's row of n entries;  flag_lists c n k: the nodes that are flagged with 1 in the first k rows, one row after the other
 --   ListsPre, ListsWritten, SumRowPre, SumsRow, SumRowsPre, SumsRows   == lists and counts from flags
 --   WritePre, Written    == what `build` writes once the tree is read
--- Letters: T text, Q query, h all hashes of a query, c counts or flags, p parents; i place, v node, j word. Assumes nothing.
+-- Letters: T text, Q query, h all hashes of a query, c counts or flags, p parents; m mention, v node, j word. Assumes nothing.
 use Rattle.std.specs.Prelude.{ℕ, zero, suc, ◌+◌, ◌*◌, ◌≤◌, ◌<◌, ◌^◌, ◌≡◌, List, [], ◌++◌, true, cond, ◌&&◌, eqb, length, get_or, take, drop, replicate}
 use Rattle.seq.specs.Below.{sum_below, tabulate}
 use Rattle.seq.specs.Lists.{same_list}
@@ -18,21 +18,22 @@ use Rattle.fnv.specs.Fnv.{hash_of}
 use Rattle.words.specs.Reading.{word_at}
 use Rattle.words.specs.Stands.{stands}
 use Rattle.query.specs.Query.{Query, asked, word_count, query_ok, Hashes}
+use Rattle.mentions.specs.declared.Mention.{Mention}
 use Rattle.plan.specs.Lists.{lists_to}
 use Rattle.build.specs.Build.{ends_for, counts_for}
 
 -- ---- flags
-pub record FlagPre (T : List ℕ) (i a v : ℕ) (Q : Query) (h : List ℕ) (n : ℕ) (c : List ℕ) : Type 0 where
+pub record FlagPre (T : List ℕ) (m : Mention) (Q : Query) (h : List ℕ) (n : ℕ) (c : List ℕ) : Type 0 where
   pub ok : query_ok Q ≡ true
-  pub own : a ≡ hash_of (word_at T i)
+  pub own : m.hash ≡ hash_of (word_at T m.place)
   pub hashes : Hashes Q h
-  pub node : v < n
+  pub node : m.node < n
   pub few : n ≤ 65536
   pub long : length c ≡ word_count Q * n
 
-pub record Flags (T : List ℕ) (i v : ℕ) (Q : Query) (n : ℕ) (c c' : List ℕ) : Type 0 where
+pub record Flags (T : List ℕ) (m : Mention) (Q : Query) (n : ℕ) (c c' : List ℕ) : Type 0 where
   pub long : length c' ≡ word_count Q * n
-  pub each : (j u : ℕ) → j < word_count Q → u < n → get_or c' (j * n + u) 0 ≡ cond (eqb v u && same_list (asked Q j) (word_at T i)) 1 (get_or c (j * n + u) 0)
+  pub each : (j u : ℕ) → j < word_count Q → u < n → get_or c' (j * n + u) 0 ≡ cond (eqb m.node u && same_list (asked Q j) (word_at T m.place)) 1 (get_or c (j * n + u) 0)
 
 pub record FlagAllPre (T : List ℕ) (Q : Query) (n : ℕ) (c : List ℕ) : Type 0 where
   pub ok : query_ok Q ≡ true

@@ -9,23 +9,24 @@ ghost use Rattle.query.specs.Query.{query};
 ghost use Rattle.build.specs.Build.{lent, Builds};
 ghost use Rattle.build.specs.Inner.{WritePre, Written};
 
+use query::Query;
+
 // Writes lists, ends and counts, over slices that are as long as these, for a text that the judge has accepted and the parents that were read from it.
 fn write(
     text: &[u8],
-    words: &[u8],
-    word_ends: &[u32],
+    q: &Query,
     parents: &[u32],
     ends: &mut [u32],
     occurrences: &mut [u32],
     counts: &mut [u32],
 )
-    requires { WritePre text.now (query words.now word_ends.now) parents.now ends.old occurrences.old counts.old }
-    ensures { Written text.now (query words.now word_ends.now) ends.new occurrences.new counts.new }
+    requires { WritePre text.now (query q.now.words.now q.now.ends.now) parents.now ends.old occurrences.old counts.old }
+    ensures { Written text.now (query q.now.words.now q.now.ends.now) ends.new occurrences.new counts.new }
 {
     let n = parents.len();
-    flags::flag_all(text, words, word_ends, n, &mut *counts);
+    flags::flag_all(text, q, n, &mut *counts);
     lists::write_lists(&*counts, n, &mut *ends, &mut *occurrences);
-    lists::sum_rows(parents, word_ends.len(), &mut *counts);
+    lists::sum_rows(parents, q.ends.len(), &mut *counts);
 }
 
 // Builds the index of a text for the words of a query, which are lent as bytes and ends. The reply, with n as its total, is that of `plan`, which says when each refusal is given.
@@ -49,10 +50,13 @@ pub fn build(
         (lent slots.old parents.old tags.old firsts.old lasts.old ends.old occurrences.old counts.old work.old) result
         (lent slots.new parents.new tags.new firsts.new lasts.new ends.new occurrences.new counts.new work.new) }
 {
+    let q = Query {
+        words,
+        ends: word_ends,
+    };
     let p = plan::plan(
         text,
-        words,
-        word_ends,
+        &q,
         &mut *slots,
         plan::Sizes {
             parents: parents.len(),
@@ -68,7 +72,7 @@ pub fn build(
     if p.reply.refusal != index::ACCEPTED {
         return p.reply;
     }
-    let n = seq::widen(p.reply.total);
+    let n = p.reply.total as usize;
     let k = word_ends.len();
     let total = p.total;
     let read = reader::read(
@@ -81,8 +85,7 @@ pub fn build(
     );
     write(
         text,
-        words,
-        word_ends,
+        &q,
         &parents[..n],
         &mut ends[..k],
         &mut occurrences[..total],

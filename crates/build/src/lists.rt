@@ -1,5 +1,4 @@
 // The lists of the query's words with their ends, from the flags; and then the counts, in the place of the flags.
-ghost use Rattle.query.specs.Query.{query};
 ghost use Rattle.build.specs.Inner.{ListsPre, ListsWritten, SumRowPre, SumsRow, SumRowsPre, SumsRows};
 
 // Writes each word's list behind the one before, and where it ends. Word j's flags are the n entries of `flags` from j * n on.
@@ -7,16 +6,11 @@ pub(crate) fn write_lists(flags: &[u32], n: usize, ends: &mut [u32], occurrences
     requires { ListsPre flags.now n ends.old occurrences.old }
     ensures { ListsWritten flags.now n ends.old occurrences.old ends.new occurrences.new }
 {
-    let mut at: usize = 0;
-    let mut row: usize = 0;
-    let mut j: usize = 0;
-    while j < ends.len() {
-        let next = row + n;
-        let r = listing::list_flagged(&flags[row..next], &mut occurrences[at..]);
-        at += seq::widen(r.total);
+    let mut at = 0;
+    for j in 0..ends.len() {
+        let r = listing::list_flagged(&flags[j * n..(j + 1) * n], &mut occurrences[at..]);
+        at += r.total as usize;
         ends[j] = at as u32;
-        row = next;
-        j += 1;
     }
 }
 
@@ -25,11 +19,9 @@ fn sum_row(parents: &[u32], row: &mut [u32])
     requires { SumRowPre parents.now row.old }
     ensures { SumsRow parents.now row.old row.new }
 {
-    let mut i = parents.len();
-    while 1 < i {
-        i -= 1;
-        let up = seq::widen(parents[i]);
-        row[up] = row[up] + row[i];
+    for i in (1..parents.len()).rev() {
+        let up = parents[i] as usize;
+        row[up] += row[i];
     }
 }
 
@@ -39,12 +31,7 @@ pub(crate) fn sum_rows(parents: &[u32], k: usize, counts: &mut [u32])
     ensures { SumsRows parents.now k counts.old counts.new }
 {
     let n = parents.len();
-    let mut row: usize = 0;
-    let mut j: usize = 0;
-    while j < k {
-        let next = row + n;
-        sum_row(parents, &mut counts[row..next]);
-        row = next;
-        j += 1;
+    for j in 0..k {
+        sum_row(parents, &mut counts[j * n..(j + 1) * n]);
     }
 }

@@ -8,7 +8,8 @@ use Prim.Native.Nat.{ℕ, ◌≤◌, ◌<◌}
 use mathlib.Core.Path.{◌≡◌, refl, sym, ap, ap₂, ◌∙◌}
 use mathlib.Core.List.{List}
 use mathlib.Core.Bool.{Bool, true, false, cond}
-use lib.Dec.{eqb}
+use mathlib.Core.Option.{none, some}
+use lib.Dec.{eqb, leb}
 use lib.ListN.{length}
 use borrow.Author.Tests.{eq-eqb, ne_eqb, eqb-false, le-leb, lt-leb}
 use Rattle.seq.proofs.Laws.Bools.{and_both, and_false-left, and_false-right, cond-true, cond-false}
@@ -41,7 +42,7 @@ slots-blank T w = refl
 
 -- ---- what fits, but for the table and the lists
 abbrev pub room_in : ℕ → Query → Sizes → Bool
-room_in n Q s = roomy n (word_count Q) s.parents s.tags s.firsts s.lasts s.work s.ends s.counts
+room_in n Q s = roomy n (word_count Q) s
 
 -- How many entries the lists have together, where the reply is accepted.
 total-none : (r : Reply) (x : ℕ) → (r.refusal ≡ accepted → ⊥) → 0 ≡ cond (eqb r.refusal accepted) x 0
@@ -98,9 +99,9 @@ module _ (T : List ℕ) (Q : Query) (s : Sizes) (w : List ℕ) where
           unfolding enough roomy
           no_rows h = room-plans (and_false-left _ _ (ap (λ n. room_in n Q s) count ∙ h))
 
-          pub no_table : made (word_table T (length w)) ≡ false → Plans T Q s w p w'
+          pub no_table : word_table T (length w) ≡ none → Plans T Q s w p w'
           unfolding enough roomy
-          no_table h = room-plans (and_false-right (room_in (length (tree_of T)) Q s) _ (and_false-left _ _ h))
+          no_table h = room-plans (and_false-right (room_in (length (tree_of T)) Q s) _ (and_false-left _ _ (ap made h)))
 
           pub no_lists : s.occurrences < length (lists_to T Q (word_count Q)) → Plans T Q s w p w'
           unfolding enough roomy
@@ -109,19 +110,19 @@ module _ (T : List ℕ) (Q : Query) (s : Sizes) (w : List ℕ) where
               (and_false-right (room_in (length (tree_of T)) Q s) _
               (and_false-right (made (word_table T (length w))) _ (lt-leb (length (lists_to T Q (word_count Q))) s.occurrences h)))
 
-        -- ---- acceptance
-        module _ (roomed : room_in n Q s ≡ true) (table : made (word_table T (length w)) ≡ true) (few : length (lists_to T Q (word_count Q)) ≤ s.occurrences) where
-          all-fits : enough T Q (length w) s ≡ true
+        -- ---- acceptance: the table is w', and the lists have m entries.
+        module _ (roomed : room_in n Q s ≡ true) (w' : List ℕ) (table : word_table T (length w) ≡ some w') (m : ℕ) (h : m ≡ length (lists_to T Q (word_count Q))) where
+          all-fits : m ≤ s.occurrences → enough T Q (length w) s ≡ true
           unfolding enough roomy
-          all-fits =
+          all-fits few =
               and_both (room_in (length (tree_of T)) Q s) _ (ap (λ n. room_in n Q s) count ∙ roomed)
-              (and_both (made (word_table T (length w))) _ table (le-leb (length (lists_to T Q (word_count Q))) s.occurrences few))
+              (and_both (made (word_table T (length w))) _ (ap made table) (ap (λ (k : ℕ). leb k s.occurrences) (sym h) ∙ le-leb m s.occurrences few))
 
-          pub all-plans : (w' : List ℕ) → w' ≡ table_or w (word_table T (length w)) → (m : ℕ) → m ≡ length (lists_to T Q (word_count Q)) → Plans T Q s w (plan r m) w'
-          all-plans w' f m h =
+          pub all-plans : m ≤ s.occurrences → Plans T Q s w (plan r m) w'
+          all-plans few =
               record {
-                reply = e ∙ sym (taken (judge_reply T) (cond-true (enough T Q (length w) s) all-fits _ _));
-                slots = f ∙ slots_filled T w r z;
+                reply = e ∙ sym (taken (judge_reply T) (cond-true (enough T Q (length w) s) (all-fits few) _ _));
+                slots = sym (ap (table_or w) table) ∙ slots_filled T w r z;
                 total = h ∙ sym (total-all r _ z);
               }
 

@@ -9,6 +9,8 @@ ghost use Rattle.query.specs.Query.{query};
 ghost use Rattle.plan.specs.Plan.{Plans};
 ghost use Rattle.plan.specs.Inner.{roomy, RoomPre, NoRoom};
 
+use query::Query;
+
 // How many entries are lent of each slice that is to be written, but for the table.
 #[derive(Clone, Copy)]
 pub struct Sizes {
@@ -29,28 +31,25 @@ pub struct Planned {
     pub total: usize,
 }
 
-// Whether n nodes and k words fit the rows of the tree, the reader's work, the ends and the counts.
-fn has_room(
-    n: usize,
-    k: usize,
-    parents: usize,
-    tags: usize,
-    firsts: usize,
-    lasts: usize,
-    work: usize,
-    ends: usize,
-    counts: usize,
-) -> bool
-    requires { RoomPre n k }
-    ensures { result ≡ roomy n k parents tags firsts lasts work ends counts }
-{
-    if !reader::has_room(n, parents, tags, firsts, lasts, work) {
-        return false;
+impl Sizes {
+    // Whether n nodes and k words fit the rows of the tree, the reader's work, the ends and the counts.
+    fn has_room(&self, n: usize, k: usize) -> bool
+        requires { RoomPre n k }
+        ensures { result ≡ roomy n k self.now }
+    {
+        let tree = reader::has_room(
+            n,
+            self.parents,
+            self.tags,
+            self.firsts,
+            self.lasts,
+            self.work,
+        );
+        if !tree || self.ends < k {
+            return false;
+        }
+        k * n <= self.counts
     }
-    if ends < k {
-        return false;
-    }
-    k * n <= counts
 }
 
 // ROOM: the table is zero, and the total 0.
@@ -73,10 +72,10 @@ fn no_room(slots: &mut [u32]) -> Planned
 // digit; then whichever comes first: MARKUP at the first byte at which no text of the profile continues, or TREE at the first node of level 65 or numbered 65,536. These touch nothing.
 // Last ROOM, with total 0, where the distinct words of the text outnumber the slots, parents, tags, firsts or lasts is shorter than n, work than 3 * n, ends than k, occurrences than all lists
 // together, or counts than k * n: then every slot is 0. Accepted, the slots are the table.
-pub fn plan(text: &[u8], words: &[u8], word_ends: &[u32], slots: &mut [u32], lent: Sizes) -> Planned
-    ensures { Plans text.now (query words.now word_ends.now) lent slots.old result slots.new }
+pub fn plan(text: &[u8], q: &Query, slots: &mut [u32], lent: Sizes) -> Planned
+    ensures { Plans text.now (query q.now.words.now q.now.ends.now) lent slots.old result slots.new }
 {
-    if !query::is_query(words, word_ends) {
+    if !q.is_query() {
         return Planned {
             reply: index::Reply {
                 refusal: index::SIZE,
@@ -90,29 +89,11 @@ pub fn plan(text: &[u8], words: &[u8], word_ends: &[u32], slots: &mut [u32], len
     if r.refusal != index::ACCEPTED {
         return Planned { reply: r, total: 0 };
     }
-    let n = seq::widen(r.total);
-    if !has_room(
-        n,
-        word_ends.len(),
-        lent.parents,
-        lent.tags,
-        lent.firsts,
-        lent.lasts,
-        lent.work,
-        lent.ends,
-        lent.counts,
-    ) {
+    if !lent.has_room(r.total as usize, q.ends.len()) {
         return no_room(slots);
     }
-    let g = gather::gather(text, words, word_ends, &mut *slots);
-    if !g.fits {
-        return no_room(slots);
-    }
-    if lent.occurrences < g.total {
-        return no_room(slots);
-    }
-    Planned {
-        reply: r,
-        total: g.total,
+    match gather::gather(text, q, &mut *slots) {
+        Some(total) if total <= lent.occurrences => Planned { reply: r, total },
+        _ => no_room(slots),
     }
 }

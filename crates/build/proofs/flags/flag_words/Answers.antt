@@ -1,32 +1,27 @@
--- `build::flags::flag_words` meets its contract: glue over Passing. Assumes nothing.
-use native.Mathlib.Omega.{arith}
+-- `build::flags::flag_words` meets its contract: glue over Flagging. Assumes nothing.
+use Rattle.std.proofs.Common.{arith}
 use Rattle.plan.proofs.Texts.{text-kept}
-use Rattle.plan.proofs.Passing.{none_left, nexts, own-hash}
 use Rattle.build.proofs.Flagging.{flagging-start, flagging-end, flag-below, flag-fewer, flagging-step}
-use borrow.Author.Tests.{not-true, not-false}
 use Rattle.build.proofs.flags.flag_words.Goals as goal
 
-pub loop-s-init : goal.loop-s-init
-loop-s-init c = flagging-start _ _ _ _ _ c.requires
-
-pub returns-then-not-s : goal.returns-then-not-s
-returns-then-not-s c = flagging-end _ _ _ _ _ _ _ _ c.loop-s.invariant (none_left _ _ _ _ _ _ c.next-s.ensures (not-true _ c.if-not-s.true))
-
-pub overflow_add-node : goal.overflow_add-node
-overflow_add-node c = omega (arith, flag-below _ _ _ _ _ _ _ _ c.loop-s.invariant _ _ (nexts _ _ _ _ _ _ c.next-s.ensures (not-false _ c.if-not-s.false) _ c.hash_word-h.ensures), c.requires.pre.nodes, (text-kept _ c.requires.pre.kept).few)
+pub loop-mention-init : goal.loop-mention-init
+loop-mention-init c = flagging-start _ _ _ _ _ _ c.requires (c.new-walk.ensures _)
 
 pub flag-requires : goal.flag-requires
 flag-requires c = record {
   ok = c.requires.pre.ok;
-  own = own-hash _ _ _ c.hash_word-h.ensures;
+  own = c.in-Some.ensures.own;
   hashes = c.requires.hashes;
-  node = flag-below _ _ _ _ _ _ _ _ c.loop-s.invariant _ _ (nexts _ _ _ _ _ _ c.next-s.ensures (not-false _ c.if-not-s.false) _ c.hash_word-h.ensures);
+  node = flag-below _ _ _ _ _ c.loop-mention.invariant _ _ c.in-Some.ensures;
   few = omega (arith, c.requires.pre.nodes, (text-kept _ c.requires.pre.kept).few);
-  long = c.loop-s.invariant.long;
+  long = c.loop-mention.invariant.long;
 }
 
-pub loop-s-smaller : goal.loop-s-smaller
-loop-s-smaller c = flag-fewer _ _ _ _ _ _ _ _ c.loop-s.invariant _ _ (nexts _ _ _ _ _ _ c.next-s.ensures (not-false _ c.if-not-s.false) _ c.hash_word-h.ensures)
+pub loop-mention-smaller : goal.loop-mention-smaller
+loop-mention-smaller c = flag-fewer _ _ _ _ _ c.loop-mention.invariant _ _ c.in-Some.ensures
 
-pub loop-s-preserved : goal.loop-s-preserved
-loop-s-preserved c = flagging-step _ _ _ _ _ _ _ _ c.loop-s.invariant _ _ (nexts _ _ _ _ _ _ c.next-s.ensures (not-false _ c.if-not-s.false) _ c.hash_word-h.ensures) _ c.flag.ensures
+pub loop-mention-preserved : goal.loop-mention-preserved
+loop-mention-preserved c = flagging-step _ _ _ _ _ c.loop-mention.invariant _ _ c.in-Some.ensures _ c.flag.ensures
+
+pub returns : goal.returns
+returns c = flagging-end _ _ _ _ _ c.loop-mention.invariant c.in_default.ensures

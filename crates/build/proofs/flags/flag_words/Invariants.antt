@@ -1,12 +1,12 @@
--- `build::flags::flag_words` meets its contract: glue over Passing. Assumes nothing.
-use lib.ListN.{length}
+-- `build::flags::flag_words` meets its contract: glue over Flagging. Assumes nothing.
+use Rattle.std.proofs.Common.{length}
 use Rattle.query.specs.Query.{query}
-use Rattle.plan.proofs.Passing.{left}
+use Rattle.mentions.specs.Walk.{left}
 use Rattle.build.proofs.Flagging.{Flagging}
 use Rattle.build.proofs.flags.flag_words.Given as goal
 
-abbrev pub invariant-loop-s : goal.invariant-loop-s
-invariant-loop-s l = Flagging l.text (query l.words l.ends) l.n l.counts l.at l.tag l.solid l.node
+abbrev pub invariant-loop-mention : goal.invariant-loop-mention
+invariant-loop-mention l = Flagging l.text (query l.q.words.now l.q.ends.now) l.n l.counts l.walk.pass
 
-abbrev pub decreases-loop-s : goal.decreases-loop-s
-decreases-loop-s l = length (left l.text l.at l.tag l.solid l.node)
+abbrev pub decreases-loop-mention : goal.decreases-loop-mention
+decreases-loop-mention l = length (left l.text l.walk.pass)

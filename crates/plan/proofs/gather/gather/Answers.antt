@@ -1,5 +1,5 @@
 -- `plan::gather::gather` meets its contract: the hashes are made, the table is cleared, and the words are gathered. Assumes nothing.
-use mathlib.Core.Path.{refl}
+use Rattle.std.proofs.Common.{refl}
 use Rattle.query.proofs.Hashing.{hashes-of}
 use Rattle.plan.proofs.Passing.{cleared-blank, cleared-long}
 use Rattle.plan.proofs.Counting.{gathers_any}
