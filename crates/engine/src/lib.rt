@@ -4,11 +4,13 @@
 #![tactic(auto)]
 
 ghost use Rattle.std.specs.Prelude.{◌≡◌};
-ghost use Rattle.depot.specs.Depot.{depot};
+ghost use Rattle.index.specs.Replies.{reply_of};
+ghost use Rattle.depot.specs.Depot.{depot_of};
 ghost use Rattle.engine.specs.Search.{Searched};
 ghost use Rattle.engine.specs.Inner.Passes.{job, FitsPre, fitting, ListPre, Listed};
 
-use index::Reply;
+use depot::Depot;
+use index::Refusal;
 use steps::Tally;
 
 mod cursors;
@@ -35,79 +37,68 @@ fn fits(smallest: bool, m: usize, k: usize, out: usize, own: usize) -> bool
 
 // Counts the answers, and lists them if there is room for them.
 fn list(
-    parents: &[u32],
-    ends: &[u32],
-    occurrences: &[u32],
+    depot: Depot,
     stack: &mut [Entry],
     out: &mut [u32],
     own: &mut [u32],
     smallest: bool,
-) -> Reply
-    requires { ListPre (job parents.now ends.now occurrences.now) stack.old }
-    ensures { Listed (job parents.now ends.now occurrences.now) smallest stack.old out.old own.old result
-        stack.new out.new own.new }
+) -> Result<u32, Refusal>
+    requires { ListPre (job depot.parents.now depot.ends.now depot.occurrences.now) stack.old }
+    ensures { Listed (job depot.entry.parents.now depot.entry.ends.now depot.entry.occurrences.now) smallest
+        stack.old out.old own.old (reply_of result) stack.new out.new own.new }
 {
     let m = passes::pass(
         stack,
-        parents,
-        ends,
-        occurrences,
+        depot.parents,
+        depot.ends,
+        depot.occurrences,
         out,
         own,
         smallest,
         Tally::Counted(0),
     );
-    let refusal = if fits(smallest, m, ends.len(), out.len(), own.len()) {
-        passes::pass(
-            stack,
-            parents,
-            ends,
-            occurrences,
-            out,
-            own,
-            smallest,
-            Tally::Left(m),
-        );
-        index::ACCEPTED
-    } else {
-        index::ROOM
-    };
-    Reply {
-        refusal,
-        place: 0,
-        total: m as u32,
+    if !fits(smallest, m, depot.ends.len(), out.len(), own.len()) {
+        return Err(Refusal::Room(m as u32));
     }
+    passes::pass(
+        stack,
+        depot.parents,
+        depot.ends,
+        depot.occurrences,
+        out,
+        own,
+        smallest,
+        Tally::Left(m),
+    );
+    Ok(m as u32)
 }
 
 // The answers to p positive words, the smallest or the exclusive ones, in increasing number, in out; and of the exclusive ones p own counts each, in word order, in own.
-//   1 SIZE, 2 TREE, 3 LIST   as the depot's check has them; SIZE touches nothing
-//   5 ROOM   out is shorter than the answer or, where the exclusive ones are listed, own than p times the answer; place 0, total: the answers needed
-//   0        place 0, total m: the first m entries of out are written and, of the exclusive ones, the first m·p of own; later entries stay
-// Any refusal keeps out and own as lent. Under every reply but SIZE the first 64 entries of the stack end as zero, and the rest is untouched.
+//   Size, Tree, List  as the depot's check has them; Size touches nothing
+//   Room(m)           out is shorter than the m answers or, where the exclusive ones are listed, own than m·p
+//   Ok(m)             the first m entries of out are written and, of the exclusive ones, the first m·p of own; later entries stay
+// Any refusal keeps out and own as lent. Under every answer but Size the first 64 entries of the stack end as zero, and the rest is untouched.
 pub fn search(
-    parents: &[u32],
-    tags: &[u32],
-    p: u32,
-    q: u32,
-    ends: &[u32],
-    occurrences: &[u32],
+    depot: Depot,
     stack: &mut [Entry],
     out: &mut [u32],
     own: &mut [u32],
     smallest: bool,
-) -> Reply
-    ensures { Searched (depot parents.now tags.now p q ends.now occurrences.now) smallest
-        stack.old out.old own.old result stack.new out.new own.new }
+) -> Result<u32, Refusal>
+    ensures { Searched (depot_of depot.entry) smallest stack.old out.old own.old (reply_of result)
+        stack.new out.new own.new }
 {
-    let checked = depot::check(parents, tags, p, q, ends, occurrences, stack.len());
-    if checked.refusal == index::SIZE {
-        return checked;
+    match depot::check(depot, stack.len()) {
+        Ok(()) => {
+            let answer = list(depot, &mut *stack, out, own, smallest);
+            passes::clear(stack);
+            answer
+        }
+        Err(refusal) => {
+            if refusal != Refusal::Size {
+                passes::clear(stack);
+            }
+            Err(refusal)
+        }
     }
-    let reply = if checked.refusal == index::ACCEPTED {
-        list(parents, ends, occurrences, stack, out, own, smallest)
-    } else {
-        checked
-    };
-    passes::clear(stack);
-    reply
 }

@@ -5,6 +5,7 @@
 ghost use Rattle.depot.specs.Depot.{depot};
 ghost use Rattle.merge.specs.Merge.{MergedElca, MergedSlca};
 
+use depot::Depot;
 use engine::Entry;
 use index::Reply;
 
@@ -28,18 +29,15 @@ pub fn elca(
     ensures { MergedElca (depot parents.now tags.now p q ends.now occurrences.now)
         stack.old out.old own.old result stack.new out.new own.new }
 {
-    engine::search(
+    let depot = Depot {
         parents,
         tags,
-        p,
-        q,
+        positive: p,
+        negative: q,
         ends,
         occurrences,
-        stack,
-        out,
-        own,
-        false,
-    )
+    };
+    engine::search(depot, stack, out, own, false).into()
 }
 
 // The SLCAs of p positive words, in increasing number, in out: the same without own.
@@ -56,17 +54,14 @@ pub fn slca(
     ensures { MergedSlca (depot parents.now tags.now p q ends.now occurrences.now)
         stack.old out.old result stack.new out.new }
 {
-    engine::search(
+    let depot = Depot {
         parents,
         tags,
-        p,
-        q,
+        positive: p,
+        negative: q,
         ends,
         occurrences,
-        stack,
-        out,
-        // no own counts are written where the smallest are listed
-        &mut [],
-        true,
-    )
+    };
+    // no own counts are written where the smallest are listed
+    engine::search(depot, stack, out, &mut [], true).into()
 }

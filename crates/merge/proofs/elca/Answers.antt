@@ -3,4 +3,4 @@ use Rattle.merge.proofs.Searched.{searched-elca}
 use Rattle.merge.proofs.elca.Goals as goal
 
 pub returns : goal.returns
-returns c = searched-elca _ _ _ _ _ _ _ _ c.search.ensures
+returns c = rw c.into.ensures (searched-elca _ _ _ _ _ _ _ _ c.search.ensures)

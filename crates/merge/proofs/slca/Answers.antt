@@ -3,4 +3,4 @@ use Rattle.merge.proofs.Searched.{searched-slca}
 use Rattle.merge.proofs.slca.Goals as goal
 
 pub returns : goal.returns
-returns c = searched-slca _ _ _ _ _ _ _ _ c.search.ensures
+returns c = rw c.into.ensures (searched-slca _ _ _ _ _ _ _ _ c.search.ensures)
