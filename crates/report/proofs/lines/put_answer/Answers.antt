@@ -11,9 +11,9 @@ use Rattle.report.proofs.lines.put_answer.Goals.{then-is_empty, else-is_empty}
 
 pub loop-v-init : goal.loop-v-init
 loop-v-init c = rw (nodes-none _ _, append-nil _) (elim c.if-is_empty.branch [
-    then-is_empty w ↦ rw w.out-is (added_same _ _ _ _ w.put_line.ensures (alone-none _ _ _ (sym c.is_empty.ensures ∙ w.if-is_empty.true)))
-    | else-is_empty w ↦ rw w.out-is (added_same _ _ _ _ (added-start _) (alone-some _ _ _ (sym c.is_empty.ensures ∙ w.if-is_empty.false)))
-  ])
+  | then-is_empty w ↦ rw w.out-is (added_same _ _ _ _ w.put_line.ensures (alone-none _ _ _ (sym c.is_empty.ensures ∙ w.if-is_empty.true)))
+  | else-is_empty w ↦ rw w.out-is (added_same _ _ _ _ (added-start _) (alone-some _ _ _ (sym c.is_empty.ensures ∙ w.if-is_empty.false)))
+])
 
 pub loop-v-preserved : goal.loop-v-preserved
 loop-v-preserved c =

@@ -12,7 +12,7 @@ pub returns : goal.returns
 unfolding line_text bytes
 returns c =
     let node : Added (node_text c.args.node) c.put_reply.new.out c.match-node.out = elim c.match-node.branch [
-        in-Some w ↦ rw (w.out-is, w.in-Some.is) w.put_number.ensures
-        | in_default w ↦ rw (w.out-is, w.in_default.is) (added-start _)
+      | in-Some w ↦ rw (w.out-is, w.in-Some.is) w.put_number.ensures
+      | in_default w ↦ rw (w.out-is, w.in_default.is) (added-start _)
     ] in
     added-step _ _ _ _ _ _ c.put_reply.ensures (added-step _ _ _ _ _ _ node c.put_all.ensures refl) refl
