@@ -4,7 +4,7 @@
 --   all_known, known-all           it gives p exactly if every positive word is in the tree
 --   unknown_has, has_unknown       and a place below p exactly if some positive word has an empty list
 --   Moves, moves-..                the loop over the ends, and how a turn keeps what it knows
---   first_unknown                  what the loop finds is the lowest unknown word
+--   lowest_unknown                 what the loop finds is the lowest unknown word
 -- Letters: I index; k words, j word; begin where word j's list begins.
 use Prim.Native.Nat.{ℕ, ◌+◌, ◌-◌, ◌≤◌, ◌<◌}
 use mathlib.Core.Path.{◌≡◌, refl, sym, ap, ◌∙◌}
@@ -18,17 +18,19 @@ use borrow.Author.Tests.{le-leb, leb-true, leb-false, eq-eqb, eqb-true}
 use lib.Dec.{eqb, leb}
 use lib.ListN.{length, get_or, drop, length-drop}
 use lib.Seq.{length-take-le}
+use Rattle.std.specs.Prelude.{Option, Some, None}
+use Rattle.seq.specs.Below.{Lowest}
 use Rattle.seq.specs.Plain.{LowestBad}
 use Rattle.seq.proofs.Laws.Bools.{bool_ext, not-of, not_at}
 use Rattle.seq.proofs.Laws.Numbers.{less_or}
-use Rattle.seq.proofs.Laws.Below.{first_below, first-at, first-all, first_ext}
+use Rattle.seq.proofs.Laws.Below.{first_below, first-at, first-all}
 use Rattle.seq.proofs.Laws.Plain.{lowest-first}
-use Rattle.seq.proofs.Laws.Scan.{Scan, scan-start, scan_step, scan-fails, scan-end}
+use Rattle.seq.proofs.Laws.Scan.{Scan, scan-start, scan_step, scan-found, scan-none, lowest_ext}
 use Rattle.index.specs.Index.{Index, nodes, start, word_list, wanted}
 use Rattle.index.specs.Plain.{WordKept, ListsKept}
 use Rattle.known.specs.Known.{known, unknown_word}
 use Rattle.known.specs.Plain.{InTree, AllInTree, HasUnknown}
-use Rattle.known.specs.Inner.{end_moves, first_empty}
+use Rattle.known.specs.Inner.{end_moves}
 
 -- ---- what known means
 pub in_tree-known : (I : Index) (j : ℕ) → InTree I j → known I j ≡ true
@@ -81,20 +83,19 @@ unfolding start
 moves-start k ends = record { scan = scan-start k (end_moves ends); begins = refl }
 
 module _ (k : ℕ) (ends : List ℕ) (j begin : ℕ) (m : Moves k ends j begin) where
-  pub moves-stop : (to : ℕ) → to ≡ get_or ends j 0 → to ≡ begin → j ≡ first_empty k ends
-  unfolding first_empty end_moves
-  moves-stop to e q = scan-fails k (end_moves ends) j m.scan (ap not (eq-eqb (get_or ends j 0) (start ends j) (sym e ∙ q ∙ m.begins)))
+  pub moves-stop : j < k → get_or ends j 0 ≡ begin → Lowest k (end_moves ends) (Some j)
+  unfolding end_moves
+  moves-stop l q = scan-found k (end_moves ends) j m.scan l (ap not (eq-eqb (get_or ends j 0) (start ends j) (q ∙ m.begins)))
 
-  pub moves-step : j < k → (to : ℕ) → to ≡ get_or ends j 0 → (to ≡ begin → ⊥) → Moves k ends (j + 1) to
+  pub moves-step : j < k → (get_or ends j 0 ≡ begin → ⊥) → Moves k ends (j + 1) (get_or ends j 0)
   unfolding end_moves start
-  moves-step l to e ne = record {
-    scan = scan_step k (end_moves ends) j m.scan l (not-of _ (λ q. ne (e ∙ eqb-true (get_or ends j 0) (start ends j) q ∙ sym m.begins)));
-    begins = rw (add-one j) e;
+  moves-step l ne = record {
+    scan = scan_step k (end_moves ends) j m.scan l (not-of _ (λ q. ne (eqb-true (get_or ends j 0) (start ends j) q ∙ sym m.begins)));
+    begins = rw (add-one j) refl;
   }
 
-  pub moves-end : k ≤ j → j ≡ first_empty k ends
-  unfolding first_empty
-  moves-end h = scan-end k (end_moves ends) j m.scan h
+  pub moves-end : k ≤ j → Lowest k (end_moves ends) None
+  moves-end h = scan-none k (end_moves ends) j m.scan h
 
 -- ---- the ends tell which lists are empty
 -- A list that keeps the rules is as long as its end is beyond the one before it.
@@ -114,6 +115,5 @@ moves-known I j kept =
     long : length (wanted I j) ≡ get_or I.ends j 0 - start I.ends j
     long = word-long (nodes I) I.ends I.occurrences j kept
 
-pub first_unknown : (I : Index) → ListsKept I → I.positive ≤ length I.ends → first_empty I.positive I.ends ≡ unknown_word I
-unfolding first_empty unknown_word
-first_unknown I kept some = first_ext I.positive (end_moves I.ends) (known I) (λ j l. moves-known I j (kept j (omega arith)))
+pub lowest_unknown : (I : Index) → ListsKept I → I.positive ≤ length I.ends → (r : Option ℕ) → Lowest I.positive (end_moves I.ends) r → Lowest I.positive (known I) r
+lowest_unknown I kept some r = lowest_ext I.positive (end_moves I.ends) (known I) (λ j l. moves-known I j (kept j (omega arith))) r

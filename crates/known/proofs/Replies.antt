@@ -15,21 +15,24 @@ use mathlib.Core.List.{List}
 use mathlib.Core.Bool.{Bool, true, false, false≢true}
 use native.Mathlib.Omega.{arith}
 use lib.ListN.{length}
+use Rattle.std.specs.Prelude.{Option, Some, None}
+use Rattle.seq.specs.Below.{Lowest}
 use Rattle.seq.proofs.Laws.Bools.{bool_cases}
 use Rattle.seq.proofs.Laws.Numbers.{less_or}
 use Rattle.index.specs.declared.Reply.{Reply}
+use Rattle.index.specs.declared.replies.Refusal.{Refusal}
 use Rattle.index.specs.Index.{Index}
-use Rattle.index.specs.Replies.{accepted, SIZE, TREE, LIST, COUNT, refused, totalled, size_ok, refusing, checked, check_reply}
+use Rattle.index.specs.Replies.{accepted, SIZE, TREE, LIST, COUNT, refused, totalled, size_ok, refusing, refusal_reply, checked, check_reply}
 use Rattle.index.specs.Plain.{Sized, Right}
 use Rattle.index.specs.Promises.{Checked}
 use Rattle.index.proofs.Laws.Sizes.{sized_of}
-use Rattle.index.proofs.Laws.Replies.{refusing-yes, refusing_no, checked-size, Clean, clean-reply, Stopped, clean_or_stopped, checked_refused, checked-accepted, none-checked, work-length}
+use Rattle.index.proofs.Laws.Replies.{refusing-yes, refusing_no, checked-size, Clean, clean-reply, Stopped, clean_or_stopped, check-stopped, check-passed, none-checked}
 use Rattle.index.proofs.Acceptance.{clean-right, checked-right}
-use Rattle.known.specs.Known.{UNKNOWN, unknown_word, unless_unknown, admitted, admit_reply}
+use Rattle.known.specs.Known.{UNKNOWN, known, unknown_word, unless_unknown, admitted, admit_reply}
 use Rattle.known.specs.Plain.{WordsAsked}
 use Rattle.known.specs.Promises.{Admitted}
-use Rattle.known.specs.Inner.{first_empty}
-use Rattle.known.proofs.Laws.{known-all, first_unknown}
+use Rattle.known.specs.Inner.{end_moves}
+use Rattle.known.proofs.Laws.{known-all, lowest_unknown}
 
 -- ---- with the flag, and without it
 pub admitted-asked : (most : ℕ) (I : Index) (w : ℕ) (r : Reply) → admitted most true I w r ≡ checked most I w r
@@ -152,53 +155,41 @@ unfolding admitted
 none-admitted asks I z w r = none-checked I z w (unless_unknown asks I r)
 
 -- ---- `admit`, after the index check
-module _ (I : Index) (w : List ℕ) (r : Reply) (w₁ : List ℕ) (c : Checked I w r w₁) where
-  pub checked-length : length w₁ ≡ length w
-  checked-length = ap length c.work ∙ work-length 8 I w
-
-  pub admit-sized : r.refusal ≡ accepted → Sized 8 I (length w)
-  admit-sized e = (checked-right I w r w₁ c e).0
-
-module _ (asks : Bool) (I : Index) (w : List ℕ) (r : Reply) (w₁ : List ℕ) (c : Checked I w r w₁) where
-  pub admit-refused : (r.refusal ≡ accepted → ⊥) → Admitted asks I w r w₁
+module _ (asks : Bool) (I : Index) (w w₁ : List ℕ) where
+  -- A refusal of the check is `admit`'s own.
+  pub admit-refused : (e : Refusal) → Checked I w (refusal_reply e) w₁ → Admitted asks I w (refusal_reply e) w₁
   unfolding admit_reply admitted
-  admit-refused ne = record {
-    reply = c.reply ∙ sym (checked_refused I w _ (λ q. ne (ap (λ (z : Reply). z.refusal) c.reply ∙ q)));
-    work = c.work;
-  }
+  admit-refused e c = record { reply = check-stopped I w w₁ e c _; work = c.work }
 
-  module _ (e : r.refusal ≡ accepted) where
-    accepts : (check_reply I w).refusal ≡ accepted
-    accepts = sym (ap (λ (z : Reply). z.refusal) c.reply) ∙ e
+  module _ (c : Checked I w (totalled accepted 0) w₁) where
+    pub admit-sized : Sized 8 I (length w)
+    admit-sized = (checked-right I w (totalled accepted 0) w₁ c refl).0
 
-    -- It accepts with place and total 0.
-    accepts-all : r ≡ totalled accepted 0
-    unfolding check_reply
-    accepts-all = c.reply ∙ checked-accepted I w (totalled accepted 0) accepts
-
-    passed : (asks ≡ false → I.positive ≤ unknown_word I) → Admitted asks I w r w₁
+    passed : (asks ≡ false → I.positive ≤ unknown_word I) → Admitted asks I w (totalled accepted 0) w₁
     unfolding admit_reply admitted
-    passed h = record { reply = accepts-all ∙ sym (checked-accepted I w _ accepts ∙ known-passed asks I (totalled accepted 0) h); work = c.work }
+    passed h = record { reply = sym (known-passed asks I (totalled accepted 0) h) ∙ check-passed I w w₁ c _; work = c.work }
 
-    pub admit-asked : asks ≡ true → Admitted asks I w r w₁
+    pub admit-asked : asks ≡ true → Admitted asks I w (totalled accepted 0) w₁
     admit-asked q = passed (λ z. absurd (false≢true (sym z ∙ q)))
 
-    -- The search for an empty list found x among k words.
-    module _ (k x : ℕ) (ek : k ≡ I.positive) (ex : x ≡ first_empty k I.ends) where
-      found : x ≡ unknown_word I
-      found = ex ∙ ap (λ (z : ℕ). first_empty z I.ends) ek ∙ first_unknown I (checked-right I w r w₁ c e).1.lists (omega (arith, (checked-right I w r w₁ c e).0.ended))
+    -- What the search for an empty list gives is the lowest unknown word.
+    found : (r : Option ℕ) → Lowest I.positive (end_moves I.ends) r → Lowest I.positive (known I) r
+    found r l = lowest_unknown I (checked-right I w (totalled accepted 0) w₁ c refl).1.lists (omega (arith, admit-sized.ended)) r l
 
-      pub admit_unknown : asks ≡ false → x < k → Admitted asks I w (refused UNKNOWN x) w₁
-      unfolding admit_reply admitted
-      admit_unknown q l = record {
-        reply = ap (refused UNKNOWN) found
-            ∙ sym (checked-accepted I w _ accepts ∙ ap (λ (b : Bool). unless_unknown b I (totalled accepted 0)) q
-            ∙ unknown_given I (totalled accepted 0) (omega (arith, found)));
-        work = c.work;
-      }
+    pub admit_unknown : asks ≡ false → (x : ℕ) → Lowest I.positive (end_moves I.ends) (Some x) → Admitted asks I w (refused UNKNOWN x) w₁
+    unfolding admit_reply admitted unknown_word
+    admit_unknown q x l =
+        let m = found (Some x) l in
+        record {
+          reply = ap (refused UNKNOWN) m.1
+              ∙ sym (ap (λ (b : Bool). unless_unknown b I (totalled accepted 0)) q ∙ unknown_given I (totalled accepted 0) (omega (arith, m.0, m.1)))
+              ∙ check-passed I w w₁ c _;
+          work = c.work;
+        }
 
-      pub admit-known : k ≤ x → Admitted asks I w r w₁
-      admit-known l = passed (λ z. omega (arith, found))
+    pub admit-known : Lowest I.positive (end_moves I.ends) None → Admitted asks I w (totalled accepted 0) w₁
+    unfolding unknown_word
+    admit-known l = passed (λ z. omega (arith, found None l))
 
 -- ---- no second outcome fits
 pub admit_unique : (asks : Bool) (I : Index) (w : List ℕ) (r r' : Reply) (w' w'' : List ℕ) → Admitted asks I w r w' → Admitted asks I w r' w'' → (r ≡ r') × (w' ≡ w'')

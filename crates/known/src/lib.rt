@@ -2,68 +2,45 @@
 // somewhere (02, Q-6). One entry point, `admit`: SIZE, TREE, LIST, COUNT as the index check has them, then UNKNOWN.
 #![tactic(auto)]
 
-ghost use Rattle.std.specs.Prelude.{◌≤◌, ◌≡◌, length};
-ghost use Rattle.index.specs.Promises.{lent};
-ghost use Rattle.known.specs.Inner.{first_empty};
+ghost use Rattle.std.specs.Prelude.{◌≤◌, length};
+ghost use Rattle.seq.specs.Below.{Lowest};
+ghost use Rattle.index.specs.Replies.{verdict_of};
+ghost use Rattle.index.specs.Promises.{index_of};
+ghost use Rattle.known.specs.Inner.{end_moves};
 ghost use Rattle.known.specs.Promises.{Admitted};
 
-use index::Reply;
+use index::{Lent, Refusal};
 
-// 02's number for a word with an empty list. It comes after COUNT and before ROOM, so refusals are not in the order of their numbers.
-pub const UNKNOWN: u32 = 8;
-
-// The lowest of the first k words whose list is empty: its end is the one before it. k where there is none.
-fn first_empty(ends: &[u32], k: usize) -> usize
+// The lowest of the first k words whose list is empty: its end is the one before it.
+fn first_empty(ends: &[u32], k: usize) -> Option<usize>
     requires { k ≤ length ends.now }
-    ensures { result ≡ first_empty k ends.now }
+    ensures { Lowest k (end_moves ends.now) result }
 {
-    let mut j: usize = 0;
     let mut from: u32 = 0;
-    while j < k {
+    for j in 0..k {
         let to = ends[j];
         if to == from {
-            return j;
+            return Some(j);
         }
         from = to;
-        j += 1;
     }
-    j
+    None
 }
 
-// The index check, and what a search asks of its words.
-//   1 SIZE, 2 TREE, 3 LIST, 4 COUNT   as the index check has them; SIZE touches nothing
-//   8 UNKNOWN  without empty_ok: the list of a positive word is empty; place: the lowest such word
-//   0          none of these; place and total 0
+// The index check, and what a search asks of its words. UNKNOWN comes after COUNT and before ROOM, so refusals are not in the order of their numbers.
+//   Size, Tree, List, Count   as the index check has them; Size touches nothing
+//   Unknown(j)   without empty_ok: the list of a positive word is empty; j: the lowest such word
+//   Ok           none of these
 // Work is left as the index check leaves it.
-pub fn admit(
-    parents: &[u32],
-    tags: &[u32],
-    p: u32,
-    q: u32,
-    empty_ok: bool,
-    ends: &[u32],
-    occurrences: &[u32],
-    counts: &[u32],
-    work: &mut [u32],
-) -> Reply
-    ensures { Admitted empty_ok (lent parents.now tags.now p q ends.now occurrences.now
-        counts.now) work.old result work.new }
+pub fn admit(lent: Lent, empty_ok: bool, work: &mut [u32]) -> Result<(), Refusal>
+    ensures { Admitted empty_ok (index_of lent.entry) work.old (verdict_of result) work.new }
 {
-    let r = index::check(parents, tags, p, q, ends, occurrences, counts, work);
-    if r.refusal != index::ACCEPTED {
-        return r;
-    }
+    index::check(lent, work)?;
     if empty_ok {
-        return r;
+        return Ok(());
     }
-    let k = seq::widen(p);
-    let word = first_empty(ends, k);
-    if word < k {
-        return Reply {
-            refusal: UNKNOWN,
-            place: word as u32,
-            total: 0,
-        };
+    match first_empty(lent.ends, lent.positive as usize) {
+        Some(word) => Err(Refusal::Unknown(word as u32)),
+        None => Ok(()),
     }
-    r
 }
