@@ -5,7 +5,7 @@
 --   passed-end, passed_reference                     over the `>` of a tag, and over a reference
 --   next-none, next-some                             what it has come to
 -- Letters: T text, i a place, x a byte, g in a tag, b the data makes a node, v the node. Assumes nothing.
-use Prim.Native.Nat.{ℕ, zero, suc, zero-le, pred, ◌+◌, ◌-◌, ◌≤◌, ◌<◌, max}
+use Prim.Native.Nat.{ℕ, zero, suc, zero-le, pred, ◌+◌, ◌-◌, ◌≤◌, ◌<◌}
 use mathlib.Core.Path.{◌≡◌, refl, sym, ap, ap₂, subst, ◌∙◌}
 use mathlib.Core.Logic.{◌⊎◌, ⊎_elim}
 use mathlib.Core.List.{List, [], ◌∷◌}
@@ -21,11 +21,14 @@ use Rattle.seq.proofs.Laws.Bools.{bool_cases}
 use Rattle.seq.proofs.Laws.Numbers.{less_or}
 use Rattle.profile.specs.Bytes.{'!', '&', '<', '>', semicolon, white, starts_with}
 use Rattle.profile.specs.Spans.{span, other}
-use Rattle.profile.proofs.Laws.Spans.{span_le, span-stops, span_none}
-use Rattle.octets.proofs.Running.{Run}
+use Rattle.profile.proofs.Laws.Spans.{span_le, span-stops}
 use Rattle.profile.specs.Tree.{place_in}
 use Rattle.profile.specs.Pieces.{COMMENT, CLOSE}
 use Rattle.markup.specs.declared.Piece.{Piece}
+use Rattle.markup.specs.declared.Kind.TheVariants.{Comment, Close}
+use Rattle.markup.specs.Pieces.{number}
+use Rattle.markup.proofs.Numbers.{number_same}
+use Rattle.skim.proofs.Laws.{skim_number}
 use Rattle.skim.specs.Skim.{skim_comment, skim_tag, skim_of, skim_at}
 use Rattle.words.specs.Runs.{word_byte, folded}
 use Rattle.words.specs.Scan.{Ahead, ahead, behind, past_markup, skips_markup, past_other, skips_other, past, skips, starts, seek, seek_in}
@@ -137,11 +140,6 @@ module _ (place : List ℕ → ℕ) where
       ap (λ z. seek place 0 (ahead false false (b || ltb (cond (white x) (suc (span white t)) 0) (cond z (suc (span (quiet '&') t)) 0)) v) (drop (cond z (suc (span (quiet '&') t)) 0) (x ∷ t))) (sym e))
       (bool_cases (quiet '&' x))
 
--- ---- quiet_end
--- The loop is over: o is past the end, or i is the end.
-pub run_over : (f : ℕ → Bool) (T : List ℕ) (o i : ℕ) → Run f T o i → length T ≤ i → (o ≤ length T → i ≤ length T) → (z : ℕ) → z ≡ max o (length T) → z ≡ o + span f (drop o T)
-run_over f T o i r l e z q = grind (arith, r.same, span_none f T i l, span_none f T o)
-
 -- ---- reach
 module _ (T : List ℕ) (i : ℕ) (v : ℕ) where
   -- Behind a span.
@@ -223,9 +221,9 @@ module _ (T : List ℕ) (s : Pass) (p : Piece) (pre : MarkupPre T s) (is : p ≡
   row : drop i T ≡ '<' ∷ rest
   row = drop-cons T i 0 pre.within ∙ ap (λ z. z ∷ rest) pre.angle
 
-  kind-is : p.kind ≡ (skim_of ('<' ∷ rest)).kind
+  kind-is : number p.kind ≡ (skim_of ('<' ∷ rest)).kind
   unfolding skim_at
-  kind-is = ap (λ p. p.kind) is ∙ ap (λ t. (skim_of t).kind) row
+  kind-is = ap (λ p. number p.kind) is ∙ skim_number T i ∙ ap (λ t. (skim_of t).kind) row
 
   end_is : p.end ≡ i + (skim_of ('<' ∷ rest)).size
   unfolding skim_at
@@ -236,13 +234,13 @@ module _ (T : List ℕ) (s : Pass) (p : Piece) (pre : MarkupPre T s) (is : p ≡
   at-angle = ap (seek (place_in T) 0 (known s)) row ∙ seek-on (place_in T) (known s) '<' rest refl
 
   -- A piece that is passed over whole.
-  over-whole : (eqb p.kind COMMENT || eqb p.kind CLOSE) ≡ true → leads T s ≡ seek (place_in T) 0 (past_markup (known s) p.kind) (drop p.end T)
+  over-whole : (eqb (number p.kind) COMMENT || eqb (number p.kind) CLOSE) ≡ true → leads T s ≡ seek (place_in T) 0 (past_markup (known s) (number p.kind)) (drop p.end T)
   unfolding skips_markup
   over-whole h =
       at-angle ∙
       ap₂ (λ (z : ℕ) a. seek (place_in T) z a rest) skipped (ap (past_markup (known s)) (sym kind-is)) ∙
-      seek-skip (place_in T) (pred (skim_of ('<' ∷ rest)).size) (past_markup (known s) p.kind) rest ∙
-      ap (seek (place_in T) 0 (past_markup (known s) p.kind)) (drop-drop (pred (skim_of ('<' ∷ rest)).size) (suc i) T ∙ ap (λ (z : ℕ). drop z T) far)
+      seek-skip (place_in T) (pred (skim_of ('<' ∷ rest)).size) (past_markup (known s) (number p.kind)) rest ∙
+      ap (seek (place_in T) 0 (past_markup (known s) (number p.kind))) (drop-drop (pred (skim_of ('<' ∷ rest)).size) (suc i) T ∙ ap (λ (z : ℕ). drop z T) far)
     where
       skipped : cond (eqb (skim_of ('<' ∷ rest)).kind COMMENT || eqb (skim_of ('<' ∷ rest)).kind CLOSE) (pred (skim_of ('<' ∷ rest)).size) 0 ≡ pred (skim_of ('<' ∷ rest)).size
       skipped = ap (λ (k : ℕ). cond (eqb k COMMENT || eqb k CLOSE) (pred (skim_of ('<' ∷ rest)).size) 0) (sym kind-is) ∙ ap (λ z. cond z (pred (skim_of ('<' ∷ rest)).size) 0) h
@@ -260,32 +258,48 @@ module _ (T : List ℕ) (s : Pass) (p : Piece) (pre : MarkupPre T s) (is : p ≡
       by true q = omega arith
       by false q = omega arith
 
-  pub passed-comment : p.kind ≡ COMMENT → Passed T s (record { at = p.end; tag = s.tag; solid = s.solid; node = s.node })
+  comment : p.kind ≡ Comment → number p.kind ≡ COMMENT
+  unfolding number
+  comment e = ap number e
+
+  close : p.kind ≡ Close → number p.kind ≡ CLOSE
+  unfolding number
+  close e = ap number e
+
+  no-comment : (p.kind ≡ Comment → ⊥) → number p.kind ≡ COMMENT → ⊥
+  unfolding number
+  no-comment n e = n (number_same p.kind Comment e)
+
+  no-close : (p.kind ≡ Close → ⊥) → number p.kind ≡ CLOSE → ⊥
+  unfolding number
+  no-close n e = n (number_same p.kind Close e)
+
+  pub passed-comment : p.kind ≡ Comment → Passed T s (record { at = p.end; tag = s.tag; solid = s.solid; node = s.node })
   unfolding past_markup
   passed-comment e =
       record {
-        same = over-whole (ap (λ (k : ℕ). eqb k COMMENT || eqb k CLOSE) e) ∙ ap (λ (k : ℕ). seek (place_in T) 0 (past_markup (known s) k) (drop p.end T)) e;
+        same = over-whole (ap (λ (k : ℕ). eqb k COMMENT || eqb k CLOSE) (comment e)) ∙ ap (λ (k : ℕ). seek (place_in T) 0 (past_markup (known s) k) (drop p.end T)) (comment e);
         on = beyond;
         few = omega (arith, beyond, pre.few);
       }
 
-  pub passed-close : (p.kind ≡ COMMENT → ⊥) → p.kind ≡ CLOSE → (k : ℕ) → k ≡ behind s.solid s.node → Passed T s (record { at = p.end; tag = false; solid = false; node = k })
+  pub passed-close : p.kind ≡ Close → (k : ℕ) → k ≡ behind s.solid s.node → Passed T s (record { at = p.end; tag = false; solid = false; node = k })
   unfolding past_markup
-  passed-close n e k q =
+  passed-close e k q =
       record {
-        same = over-whole (ap (λ (k : ℕ). eqb k COMMENT || eqb k CLOSE) e) ∙ ap (λ (k : ℕ). seek (place_in T) 0 (past_markup (known s) k) (drop p.end T)) e ∙
+        same = over-whole (ap (λ (k : ℕ). eqb k COMMENT || eqb k CLOSE) (close e)) ∙ ap (λ (k : ℕ). seek (place_in T) 0 (past_markup (known s) k) (drop p.end T)) (close e) ∙
             ap (λ (z : ℕ). seek (place_in T) 0 (ahead false false false z) (drop p.end T)) (sym q);
         on = beyond;
         few = omega (arith, beyond, pre.few, few-behind k q);
       }
 
-  pub passed_open : (p.kind ≡ COMMENT → ⊥) → (p.kind ≡ CLOSE → ⊥) → (k : ℕ) → k ≡ behind s.solid s.node → Passed T s (record { at = i + 1; tag = true; solid = false; node = k })
+  pub passed_open : (p.kind ≡ Comment → ⊥) → (p.kind ≡ Close → ⊥) → (k : ℕ) → k ≡ behind s.solid s.node → Passed T s (record { at = i + 1; tag = true; solid = false; node = k })
   unfolding past_markup skips_markup
   passed_open n m k q =
       record {
         same = at-angle ∙
             ap (λ (z : ℕ). seek (place_in T) (cond (eqb z COMMENT || eqb z CLOSE) (pred (skim_of ('<' ∷ rest)).size) 0) (past_markup (known s) z) rest) (sym kind-is) ∙
-            rw (ne_eqb p.kind COMMENT n, ne_eqb p.kind CLOSE m) (ap₂ (λ (z : ℕ) (y : ℕ). seek (place_in T) 0 (ahead true false false z) (drop y T)) (sym q) next);
+            rw (ne_eqb (number p.kind) COMMENT (no-comment n), ne_eqb (number p.kind) CLOSE (no-close m)) (ap₂ (λ (z : ℕ) (y : ℕ). seek (place_in T) 0 (ahead true false false z) (drop y T)) (sym q) next);
         on = omega arith;
         few = omega (arith, pre.few, few-behind k q);
       }

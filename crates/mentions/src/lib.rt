@@ -9,6 +9,8 @@ ghost use Rattle.mentions.specs.Next.{next_of};
 ghost use Rattle.mentions.specs.Walk.{left, Walked};
 ghost use Rattle.mentions.specs.Inner.{quiet, Reached, MarkupPre, PassPre, Passed};
 
+use markup::Kind;
+
 // Where a pass over a text is: at which place, whether in a tag, whether the data so far makes a node, and how many nodes on from where it began.
 #[derive(Clone, Copy)]
 pub struct Pass {
@@ -55,23 +57,21 @@ fn over_markup(text: &[u8], s: Pass) -> Pass
     ensures { Passed text.now s result }
 {
     let p = skim::skim_at(text, s.at);
-    if p.kind == markup::COMMENT {
-        return Pass { at: p.end, ..s };
-    }
     let node = s.node + usize::from(s.solid);
-    if p.kind == markup::CLOSE {
-        return Pass {
+    match p.kind {
+        Kind::Comment => Pass { at: p.end, ..s },
+        Kind::Close => Pass {
             at: p.end,
             tag: false,
             solid: false,
             node,
-        };
-    }
-    Pass {
-        at: s.at + 1,
-        tag: true,
-        solid: false,
-        node,
+        },
+        _ => Pass {
+            at: s.at + 1,
+            tag: true,
+            solid: false,
+            node,
+        },
     }
 }
 

@@ -2,13 +2,12 @@
 use Rattle.mentions.proofs.Steps.{counted, passed-comment, passed-close, passed_open}
 use Rattle.mentions.proofs.over_markup.Goals as goal
 
-pub returns-then-p-eq-COMMENT : goal.returns-then-p-eq-COMMENT
-returns-then-p-eq-COMMENT c = passed-comment _ _ _ c.requires c.skim_at-p.ensures c.if-p-eq-COMMENT.true
+pub returns-in-Comment : goal.returns-in-Comment
+returns-in-Comment c = passed-comment _ _ _ c.requires c.skim_at-p.ensures c.in-Comment.is
 
-pub returns-then-p-eq-CLOSE : goal.returns-then-p-eq-CLOSE
-returns-then-p-eq-CLOSE c =
-    passed-close _ _ _ c.requires c.skim_at-p.ensures c.if-p-eq-COMMENT.false c.if-p-eq-CLOSE.true _ (counted c.args.s.solid c.args.s.node _ c.from.ensures)
+pub returns-in-Close : goal.returns-in-Close
+returns-in-Close c = passed-close _ _ _ c.requires c.skim_at-p.ensures c.in-Close.is _ (counted c.args.s.solid c.args.s.node _ c.from.ensures)
 
-pub returns : goal.returns
-returns c =
-    passed_open _ _ _ c.requires c.skim_at-p.ensures c.if-p-eq-COMMENT.false c.if-p-eq-CLOSE.false _ (counted c.args.s.solid c.args.s.node _ c.from.ensures)
+pub returns-in_default : goal.returns-in_default
+returns-in_default c =
+    passed_open _ _ _ c.requires c.skim_at-p.ensures c.in_default.not-Comment c.in_default.not-Close _ (counted c.args.s.solid c.args.s.node _ c.from.ensures)
