@@ -117,7 +117,7 @@ module _ {A : Type 0} where
   adds-all t o out r h = h.adds [] o (wrote_start o)
 
   -- Where the place is within the buffer, this is what stands in it.
-  adds-within : (t out : List A) (at : ℕ) (out' : List A) (r : ℕ) → at ≤ length out → Adds t out at out' r → Wrote (take at out ++ t) out out' r
+  pub adds-within : (t out : List A) (at : ℕ) (out' : List A) (r : ℕ) → at ≤ length out → Adds t out at out' r → Wrote (take at out ++ t) out out' r
   unfolding front
   adds-within t out at out' r l h = h.adds (take at out) out (record {
     holds = sym (ap₂ (λ (s : List A) (k : ℕ). s ++ drop k out) (take_all (length out) (take at out) (omega (arith, size))) size ∙ take-append-drop at out);
