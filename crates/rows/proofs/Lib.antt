@@ -1,4 +1,3 @@
 pub mod Laws
 mod Lending
-mod Answering
 mod Tabled

@@ -4,14 +4,26 @@
 mod lend;
 mod search;
 
+ghost use Rattle.std.specs.Prelude.{◌≡◌};
 ghost use Rattle.text.specs.Buffers.{Wrote};
-ghost use Rattle.rows.specs.Output.{table_output};
+ghost use Rattle.rows.specs.Output.{place_of, table_output};
 
 use index::Reply;
+use lend::Rows;
 use report::put_bare;
 use search::put_answers;
-use sheet::Read;
-use text::put_text;
+use sheet::{Broken, read_table};
+use text::Writer;
+
+// The place of INPUT: 0 where the input is too long, else the first line that breaks a rule.
+fn place_of(broken: Broken) -> u32
+    ensures { result ≡ place_of broken }
+{
+    match broken {
+        Broken::TooLong => 0,
+        Broken::Line(line) => line,
+    }
+}
 
 // Reads a table, runs the three searches on it and writes the whole output over the front of the buffer: how many bytes were written.
 // What does not fit is not written, and later bytes of the buffer stay. 16,384 bytes hold every output.
@@ -22,22 +34,24 @@ pub fn answer_table(input: &[u8], output: &mut [u8]) -> usize
 {
     // 256 nodes, and for each its parent, its tag and two numbers for each of 8 words
     let mut cells = [0u32; 4608];
-    let read = sheet::read_table(input, &mut cells);
-    let next = put_text(&mut *output, 0, b"search,refusal,place,node\r\n");
+    let read = read_table(input, &mut cells);
+    let mut out = Writer { out: output, at: 0 };
+    out.put_all(b"search,refusal,place,node\r\n");
     match read {
-        Read::Broken(place) => put_bare(
-            output,
-            next,
+        Err(broken) => put_bare(
+            &mut out,
             b"input",
             Reply {
                 refusal: 6,
-                place,
+                place: place_of(broken),
                 total: 0,
             },
         ),
-        Read::Taken(t) => {
-            let m = t.n * (2 + 2 * (t.p + t.q));
-            put_answers(t, &cells[..m], output, next)
-        },
+        Ok(shape) => {
+            let m = shape.n * (2 + 2 * (shape.p + shape.q));
+            let cells = &cells[..m];
+            put_answers(&Rows { shape, cells }, &mut out)
+        }
     }
+    out.at
 }

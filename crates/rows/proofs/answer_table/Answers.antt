@@ -1,50 +1,57 @@
 -- `rows::answer_table` meets its contract: the header line, and then the line of INPUT or the lines of the three searches.
-use mathlib.Core.Path.{sym}
+use Prim.Native.Nat.{ℕ}
+use mathlib.Core.Path.{refl, sym, ap, ◌∙◌}
+use mathlib.Core.List.{◌++◌}
 use native.Mathlib.Omega.{arith}
 use lib.Seq.{length-take-le}
+use Rattle.std.proofs.Common.{rules}
 use Rattle.text.specs.Text.{bytes}
-use Rattle.text.proofs.Laws.Buffers.{adds_same, adds-append, adds-all}
-use Rattle.rows.specs.Output.{head_text, input_text}
+use Rattle.rows.specs.Output.{head_text, input_text, table_output}
 use Rattle.rows.proofs.Laws.Output.{output-broken}
-use Rattle.rows.proofs.Tabled.{table-words, table_product, table-pre, output-taken}
+use Rattle.rows.proofs.Tabled.{table-words, table_product, table-nodes, table-full, output-taken, Rest, output-end}
 use Rattle.rows.proofs.answer_table.Goals as goal
+use Rattle.rows.proofs.answer_table.Goals.{in-Err, in-Ok}
 
 pub overflow_add-m : goal.overflow_add-m
-overflow_add-m c =
-    omega (arith, table-words _ _ _ c.read_table-read.ensures.read c.in-Taken.is _ c.read_table-read.ensures.cells)
+overflow_add-m c = omega (arith, table-words _ _ _ c.read_table-read.ensures.read c.in-Ok.is _ c.read_table-read.ensures.cells)
 
 pub overflow_mul-m : goal.overflow_mul-m
-overflow_mul-m c =
-    omega (arith, table-words _ _ _ c.read_table-read.ensures.read c.in-Taken.is _ c.read_table-read.ensures.cells)
+overflow_mul-m c = omega (arith, table-words _ _ _ c.read_table-read.ensures.read c.in-Ok.is _ c.read_table-read.ensures.cells)
 
-pub overflow_add-m-in-Taken : goal.overflow_add-m-in-Taken
-overflow_add-m-in-Taken c =
-    omega (arith, table-words _ _ _ c.read_table-read.ensures.read c.in-Taken.is _ c.read_table-read.ensures.cells)
+pub overflow_add-m-in-Ok : goal.overflow_add-m-in-Ok
+overflow_add-m-in-Ok c = omega (arith, table-words _ _ _ c.read_table-read.ensures.read c.in-Ok.is _ c.read_table-read.ensures.cells)
 
-pub overflow_mul-m-in-Taken : goal.overflow_mul-m-in-Taken
-overflow_mul-m-in-Taken c =
-    omega (arith, table_product _ _ _ c.read_table-read.ensures.read c.in-Taken.is _ c.read_table-read.ensures.cells)
+pub overflow_mul-m-in-Ok : goal.overflow_mul-m-in-Ok
+overflow_mul-m-in-Ok c = omega (arith, table_product _ _ _ c.read_table-read.ensures.read c.in-Ok.is _ c.read_table-read.ensures.cells)
 
 pub slice_bounds-cells-end : goal.slice_bounds-cells-end
 slice_bounds-cells-end c =
-    omega (arith, table_product _ _ _ c.read_table-read.ensures.read c.in-Taken.is _ c.read_table-read.ensures.cells, c.read_table-read.auto.cells)
+    omega (arith, table_product _ _ _ c.read_table-read.ensures.read c.in-Ok.is _ c.read_table-read.ensures.cells, c.read_table-read.auto.cells)
 
-pub slice_bounds-put_answers-end : goal.slice_bounds-put_answers-end
-slice_bounds-put_answers-end c =
-    sym (length-take-le _ _ (omega (arith, table_product _ _ _ c.read_table-read.ensures.read c.in-Taken.is _ c.read_table-read.ensures.cells, c.read_table-read.auto.cells)))
+pub slice_bounds-cells-end-in-Ok : goal.slice_bounds-cells-end-in-Ok
+slice_bounds-cells-end-in-Ok c =
+    sym (length-take-le _ _ (omega (arith, table_product _ _ _ c.read_table-read.ensures.read c.in-Ok.is _ c.read_table-read.ensures.cells, c.read_table-read.auto.cells)))
 
-pub put_answers-requires : goal.put_answers-requires
-put_answers-requires c =
-    table-pre _ _ _ c.read_table-read.ensures.read c.in-Taken.is _ c.read_table-read.ensures.cells
+pub invariant_of-put_answers : goal.invariant_of-put_answers
+invariant_of-put_answers c = record {
+  few_words = table-words _ _ _ c.read_table-read.ensures.read c.in-Ok.is _ c.read_table-read.ensures.cells;
+  few_nodes = table-nodes _ _ _ c.read_table-read.ensures.read c.in-Ok.is _ c.read_table-read.ensures.cells;
+  full = table-full _ _ _ c.read_table-read.ensures.read c.in-Ok.is _ c.read_table-read.ensures.cells;
+}
 
-pub returns-in-Broken : goal.returns-in-Broken
+pub returns : goal.returns
 unfolding bytes head_text input_text
-returns-in-Broken c =
-    adds-all _ _ _ _ (adds_same _ _ _ _ _ _ (output-broken _ _ _ c.read_table-read.ensures.read c.in-Broken.is)
-    (adds-append _ _ _ _ _ _ _ _ c.put_text-next.ensures c.put_bare.ensures))
-
-pub returns-in-Taken : goal.returns-in-Taken
-unfolding bytes head_text
-returns-in-Taken c =
-    adds-all _ _ _ _ (adds_same _ _ _ _ _ _ (output-taken _ _ _ c.read_table-read.ensures.read c.in-Taken.is _ c.read_table-read.ensures.cells)
-    (adds-append _ _ _ _ _ _ _ _ c.put_text-next.ensures c.put_answers.ensures))
+returns c =
+    let rest : Rest head_text (table_output c.args.input.now) c.put_all.new.self c.match-read.out = elim c.match-read.branch [
+      | in-Err w ↦ rw w.out-is (record {
+        text = _;
+        added = w.put_bare.ensures;
+        whole = ap (λ (n : ℕ). head_text ++ input_text n) w.place_of.ensures ∙ output-broken _ _ _ c.read_table-read.ensures.read w.in-Err.is;
+      })
+      | in-Ok w ↦ rw w.out-is (record {
+        text = _;
+        added = w.put_answers.ensures;
+        whole = output-taken _ _ _ c.read_table-read.ensures.read w.in-Ok.is _ c.read_table-read.ensures.cells;
+      })
+    ] in
+    output-end _ _ _ _ _ _ refl c.put_all.ensures rest (λ n. search rules)

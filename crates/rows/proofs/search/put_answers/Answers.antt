@@ -1,68 +1,37 @@
--- `rows::search::put_answers` meets its contract: the parents and tags lent are those of the table, and one search comes after the other.
-use mathlib.Core.Path.{sym}
+-- `rows::search::put_answers` meets its contract: what is lent is the index.
+use mathlib.Core.Path.{refl}
 use native.Mathlib.Omega.{arith}
-use lib.Seq.{length-take-le}
-use Rattle.text.proofs.Laws.Buffers.{adds_same, adds-append}
-use Rattle.rows.proofs.Answering.{answers-column, answers-column-is, answers-three}
+use Rattle.rows.specs.Inner.{table_in}
+use Rattle.text.proofs.Laws.Adding.{added-step}
+use Rattle.rows.proofs.Lending.{stock-within, column-written, lent-start, lent-index, answers-three}
 use Rattle.rows.proofs.search.put_answers.Goals as goal
 
-pub overflow_add-width : goal.overflow_add-width
-overflow_add-width c = omega (arith, c.requires.words)
+pub loop-j-init : goal.loop-j-init
+loop-j-init c = lent-start _ _ _ _ refl refl refl refl refl refl
 
-pub overflow_mul-width : goal.overflow_mul-width
-overflow_mul-width c = omega (arith, c.requires.words)
+pub written-requires : goal.written-requires
+written-requires c =
+    stock-within _ _ _ (column-written (table_in c.args.rows.now.shape c.args.rows.now.cells.now) c.args.rows.now.few_nodes 0 _ _ refl refl c.put_column.ensures)
 
-pub overflow_add-width-2 : goal.overflow_add-width-2
-overflow_add-width-2 c = omega (arith, c.requires.words)
+pub written-requires-2 : goal.written-requires-2
+written-requires-2 c =
+    stock-within _ _ _ (column-written (table_in c.args.rows.now.shape c.args.rows.now.cells.now) c.args.rows.now.few_nodes 1 _ _ refl refl c.put_column-2.ensures)
 
-pub column-requires : goal.column-requires
-column-requires c =
-    answers-column _ c.requires 0 (omega arith)
+pub written-requires-6 : goal.written-requires-6
+written-requires-6 c =
+    stock-within _ _ _ (column-written (table_in c.args.rows.now.shape c.args.rows.now.cells.now) c.args.rows.now.few_nodes 0 _ _ refl refl c.put_column.ensures)
 
-pub column-requires-2 : goal.column-requires-2
-column-requires-2 c =
-    answers-column _ c.requires 1 (omega arith)
-
-pub slice_bounds-parents-end : goal.slice_bounds-parents-end
-slice_bounds-parents-end c =
-    omega (arith, c.requires.nodes, c.column.auto.out)
-
-pub slice_bounds-put_positive-end : goal.slice_bounds-put_positive-end
-slice_bounds-put_positive-end c =
-    sym (length-take-le _ _ (omega (arith, c.requires.nodes, c.column.auto.out)))
-
-pub slice_bounds-tags-end : goal.slice_bounds-tags-end
-slice_bounds-tags-end c =
-    omega (arith, c.requires.nodes, c.column-2.auto.out)
-
-pub slice_bounds-put_positive-end-2 : goal.slice_bounds-put_positive-end-2
-slice_bounds-put_positive-end-2 c =
-    sym (length-take-le _ _ (omega (arith, c.requires.nodes, c.column-2.auto.out)))
-
-pub put_positive-next-requires : goal.put_positive-next-requires
-put_positive-next-requires c = c.requires
-
-pub slice_bounds-parents-end-2 : goal.slice_bounds-parents-end-2
-slice_bounds-parents-end-2 c =
-    omega (arith, c.requires.nodes, c.column.auto.out)
-
-pub slice_bounds-put_all-end : goal.slice_bounds-put_all-end
-slice_bounds-put_all-end c =
-    sym (length-take-le _ _ (omega (arith, c.requires.nodes, c.column.auto.out)))
-
-pub slice_bounds-tags-end-2 : goal.slice_bounds-tags-end-2
-slice_bounds-tags-end-2 c =
-    omega (arith, c.requires.nodes, c.column-2.auto.out)
-
-pub slice_bounds-put_all-end-2 : goal.slice_bounds-put_all-end-2
-slice_bounds-put_all-end-2 c =
-    sym (length-take-le _ _ (omega (arith, c.requires.nodes, c.column-2.auto.out)))
-
-pub put_all-requires : goal.put_all-requires
-put_all-requires c = c.requires
+pub written-requires-7 : goal.written-requires-7
+written-requires-7 c =
+    stock-within _ _ _ (column-written (table_in c.args.rows.now.shape c.args.rows.now.cells.now) c.args.rows.now.few_nodes 1 _ _ refl refl c.put_column-2.ensures)
 
 pub returns : goal.returns
 returns c =
-    adds_same _ _ _ _ _ _
-    (answers-three _ _ _ (answers-column-is _ c.requires 0 _ _ c.column.ensures) (answers-column-is _ c.requires 1 _ _ c.column-2.ensures))
-    (adds-append _ _ _ _ _ _ _ _ c.put_positive-next.ensures c.put_all.ensures)
+    added-step _ _ _ _ _ _ c.put_pair.ensures c.put_valid.ensures
+    (answers-three (table_in c.args.rows.now.shape c.args.rows.now.cells.now) _ _
+    (lent-index (table_in c.args.rows.now.shape c.args.rows.now.cells.now) _ _ _ _ _ _ _ _ (omega (arith, c.loop-j-test.false, c.loop-j.auto.j-end))
+    (column-written _ c.args.rows.now.few_nodes 0 _ _ refl refl c.put_column.ensures) (column-written _ c.args.rows.now.few_nodes 1 _ _ refl refl c.put_column-2.ensures)
+    c.loop-j.invariant _ _ _ _ _ c.written.ensures c.written-2.ensures c.written-3.ensures c.written-4.ensures c.written-5.ensures)
+    (lent-index (table_in c.args.rows.now.shape c.args.rows.now.cells.now) _ _ _ _ _ _ _ _ (omega (arith, c.loop-k-test.false, c.loop-k.auto.k-end))
+    (column-written _ c.args.rows.now.few_nodes 0 _ _ refl refl c.put_column.ensures) (column-written _ c.args.rows.now.few_nodes 1 _ _ refl refl c.put_column-2.ensures)
+    c.loop-k.invariant _ _ _ _ _ c.written-6.ensures c.written-7.ensures c.written-8.ensures c.written-9.ensures c.written-10.ensures))
