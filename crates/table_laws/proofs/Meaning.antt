@@ -34,8 +34,9 @@ use Rattle.answers.specs.Searches.{is_elca, is_slca, is_valid, out_of, own_of, r
 use Rattle.text.specs.Text.{bytes, lines, decimal}
 use Rattle.text.proofs.Meaning.{length-decimal, decimal-most}
 use Rattle.sheet.specs.declared.Shape.{Shape}
-use Rattle.sheet.specs.declared.Read.{Read}
-use Rattle.sheet.specs.declared.Read.TheVariants.{Broken, Taken}
+use Rattle.std.specs.Prelude.{Result, Ok, Err}
+use Rattle.sheet.specs.declared.Broken.{Broken}
+use Rattle.sheet.specs.declared.Broken.TheVariants.{TooLong, Line}
 use Rattle.sheet.specs.Table.{Table, field_of, table_of}
 use Rattle.sheet.specs.Plain.{LawfulLines, First}
 use Rattle.sheet.specs.Promises.{read_of}
@@ -43,17 +44,17 @@ use Rattle.sheet.proofs.Laws.Reading.{taken_at}
 use Rattle.sheet.proofs.Meaning.{input-long, input-first, input_none}
 use Rattle.rows.specs.Lent.{index_of}
 use Rattle.report.specs.Lines.{reply_text, line_text, node_lines, answer_text, listed_by, lent_work, lent_out, lent_own, elca_text, slca_text, valid_text}
-use Rattle.rows.specs.Output.{answers_text, head_text, INPUT, input_text, table_output}
+use Rattle.rows.specs.Output.{answers_text, head_text, INPUT, place_of, input_text, table_output}
 use Rattle.table_laws.proofs.Lent.{lists-lent}
 use Rattle.rows.proofs.Laws.Output.{output-broken, output-table}
 
 -- ---- INPUT
 pub output-long : (s : List ℕ) → 16384 < length s → table_output s ≡ head_text ++ input_text 0
-output-long s h = sym (output-broken s 0 (read_of s) refl (input-long s h))
+output-long s h = sym (output-broken s TooLong (read_of s) refl (input-long s h))
 
 module _ (s : List ℕ) (h : length s ≤ 16384) where
   pub output-first : (i : ℕ) → First (lines s) i → table_output s ≡ head_text ++ input_text (suc i)
-  output-first i f = sym (output-broken s (suc i) (read_of s) refl (input-first s h i f))
+  output-first i f = sym (output-broken s (Line (suc i)) (read_of s) refl (input-first s h i f))
 
   pub output-lawful : LawfulLines (lines s) → table_output s ≡ head_text ++ answers_text (table_of (lines s))
   output-lawful l = sym (output-table s _ (read_of s) refl (input_none s h l))
@@ -294,7 +295,7 @@ answers-length T m =
     )
 
 -- A table that has been read is small.
-pub taken-small : (s : List ℕ) (t : Shape) → read_of s ≡ Taken t → Small (table_of (lines s))
+pub taken-small : (s : List ℕ) (t : Shape) → read_of s ≡ Ok t → Small (table_of (lines s))
 taken-small s t e = rw (taken_at s t e).table (record { some_positive = (taken_at s t e).some_positive; few_words = (taken_at s t e).words; few_nodes = (taken_at s t e).nodes })
 
 head-length : length head_text ≡ 27
@@ -308,13 +309,13 @@ input-length place = omega (arith, length-line (bytes "input") (refused INPUT pl
 pub output-fits : (s : List ℕ) → length (table_output s) ≤ 16384
 output-fits s = by (read_of s) refl
   where
-    by : (r : Read) → r ≡ read_of s → length (table_output s) ≤ 16384
-    by (Broken place) e =
-        omega (arith, ap length (output-broken s place (Broken place) e refl), length-append head_text (input_text place), head-length, input-length place)
-    by (Taken t) e =
+    by : (r : Result Shape Broken) → r ≡ read_of s → length (table_output s) ≤ 16384
+    by (Err b) e =
+        omega (arith, ap length (output-broken s b (Err b) e refl), length-append head_text (input_text (place_of b)), head-length, input-length (place_of b))
+    by (Ok t) e =
         omega (
           arith,
-          ap length (output-table s t (Taken t) e refl),
+          ap length (output-table s t (Ok t) e refl),
           length-append head_text (answers_text (table_of (lines s))),
           head-length,
           answers-length (table_of (lines s)) (taken-small s t (sym e)),

@@ -22,7 +22,7 @@ use Rattle.seq.proofs.Laws.Gather.{length-tabulate, get_d_tabulate, gather_ext}
 use Rattle.seq.proofs.Laws.Members.{listed-of-rising}
 use Rattle.index.specs.Index.{Index, nodes, words, start, word_list}
 use Rattle.text.specs.Text.{lines}
-use Rattle.sheet.specs.declared.Read.TheVariants.{Taken}
+use Rattle.std.specs.Prelude.{Ok}
 use Rattle.sheet.specs.Table.{Table, width, occurrence, field_of, table_of}
 use Rattle.sheet.specs.Promises.{read_of}
 use Rattle.sheet.specs.Printed.{all_rows, in_row, Printable}
@@ -140,10 +140,10 @@ module _ (I : Index) (t : Tabular I) where
     short = t.short;
   }
 
-  pub index_read : read_of (index_text I) ≡ Taken (record { p = I.positive; q = I.negative; n = nodes I })
+  pub index_read : read_of (index_text I) ≡ Ok (record { p = I.positive; q = I.negative; n = nodes I })
   unfolding index_text
   index_read =
-      printed_read I.positive I.negative (rows_of I) printable ∙ ap (λ (m : ℕ). Taken (record { p = I.positive; q = I.negative; n = m })) size
+      printed_read I.positive I.negative (rows_of I) printable ∙ ap (λ (m : ℕ). Ok (record { p = I.positive; q = I.negative; n = m })) size
 
   -- ---- the table read
   abbrev T : Table

@@ -22,13 +22,14 @@ use Rattle.text.specs.Plain.{joined_by, written, NoComma, NoEnd}
 use Rattle.text.proofs.Laws.Text.{digit_at}
 use Rattle.text.proofs.Meaning.{decimal-digits}
 use Rattle.text.proofs.Written.{fields-joined, lines-written, written-append, high, high-free, high-joined}
-use Rattle.sheet.specs.declared.Read.{Read}
-use Rattle.sheet.specs.declared.Read.TheVariants.{Broken, Taken}
+use Rattle.std.specs.Prelude.{Result, Ok, Err}
+use Rattle.sheet.specs.declared.Shape.{Shape}
+use Rattle.sheet.specs.declared.Broken.{Broken}
 use Rattle.sheet.specs.Table.{Table, table_of}
 use Rattle.sheet.specs.Promises.{read_of}
 use Rattle.report.specs.Lines.{reply_text, line_text, node_lines, answer_text, elca_text, slca_text, valid_text}
 use Rattle.rows.specs.Lent.{index_of}
-use Rattle.rows.specs.Output.{answers_text, head_text, INPUT, input_text, table_output}
+use Rattle.rows.specs.Output.{answers_text, head_text, INPUT, place_of, input_text, table_output}
 use Rattle.rows.proofs.Laws.Output.{output-broken, output-table}
 use Rattle.table_laws.specs.Records.{line_record, node_records, answer_records, elca_records, slca_records, valid_records}
 use Rattle.table_laws.specs.Records.{table_records, head_record, read_records, output_records}
@@ -89,11 +90,11 @@ table-text T =
     J : Index
     J = index_of T T.positive T.negative
 
-read-text : (s : List ℕ) (r : Read) → r ≡ read_of s → table_output s ≡ head_text ++ text_of (read_records s r)
+read-text : (s : List ℕ) (r : Result Shape Broken) → r ≡ read_of s → table_output s ≡ head_text ++ text_of (read_records s r)
 unfolding read_records input_text
-read-text s (Broken place) e =
-    sym (output-broken s place (Broken place) e refl) ∙ ap (λ (t : List ℕ). head_text ++ t) (line-alone (bytes "input") (refused INPUT place) [])
-read-text s (Taken t) e = sym (output-table s t (Taken t) e refl) ∙ ap (λ (x : List ℕ). head_text ++ x) (table-text (table_of (lines s)))
+read-text s (Err b) e =
+    sym (output-broken s b (Err b) e refl) ∙ ap (λ (t : List ℕ). head_text ++ t) (line-alone (bytes "input") (refused INPUT (place_of b)) [])
+read-text s (Ok t) e = sym (output-table s t (Ok t) e refl) ∙ ap (λ (x : List ℕ). head_text ++ x) (table-text (table_of (lines s)))
 
 output-text : (s : List ℕ) → table_output s ≡ text_of (output_records s)
 unfolding output_records head_text head_record bytes joined_by written
@@ -155,10 +156,10 @@ table-sound T =
     every_append (elca_records (index_of T T.positive 0)) _ (answer-sound (bytes "elca") _ refl _)
     (every_append (slca_records (index_of T T.positive 0)) _ (answer-sound (bytes "slca") _ refl _) (answer-sound (bytes "valid") _ refl _))
 
-read-sound : (s : List ℕ) (r : Read) → every_of sound (read_records s r) ≡ true
+read-sound : (s : List ℕ) (r : Result Shape Broken) → every_of sound (read_records s r) ≡ true
 unfolding read_records above every_of bytes
-read-sound s (Broken place) = line_sounds (bytes "input") (refused INPUT place) refl
-read-sound s (Taken t) = table-sound (table_of (lines s))
+read-sound s (Err b) = line_sounds (bytes "input") (refused INPUT (place_of b)) refl
+read-sound s (Ok t) = table-sound (table_of (lines s))
 
 output-sound : (s : List ℕ) → every_of sound (output_records s) ≡ true
 unfolding output_records head_record sound above every_of bytes

@@ -3,19 +3,19 @@
 --   answer_records name r l   == the lines of a search: one for each node of l; one with an empty node field where l is empty
 --   output_records s          == the lines of the whole output: the header line, then INPUT's one line or the answers of elca, slca and valid
 -- proofs/Records.antt shows that these are the lines and fields of `table_output`. Letters: s input; T table; I index; r reply, l nodes, v node. Assumes nothing.
-use Rattle.std.specs.Prelude.{ℕ, List, [], ◌∷◌, ◌++◌}
+use Rattle.std.specs.Prelude.{ℕ, List, [], ◌∷◌, ◌++◌, Result, Ok, Err}
 use Rattle.index.specs.declared.Reply.{Reply}
 use Rattle.index.specs.Index.{Index}
 use Rattle.index.specs.Replies.{refused}
 use Rattle.answers.specs.Searches.{is_elca, is_slca, is_valid, out_of, elca_reply, slca_reply, valid_reply}
 use Rattle.text.specs.Text.{bytes, lines, decimal}
-use Rattle.sheet.specs.declared.Read.{Read}
-use Rattle.sheet.specs.declared.Read.TheVariants.{Broken, Taken}
+use Rattle.sheet.specs.declared.Shape.{Shape}
+use Rattle.sheet.specs.declared.Broken.{Broken}
 use Rattle.sheet.specs.Table.{Table, table_of}
 use Rattle.sheet.specs.Promises.{read_of}
 use Rattle.report.specs.Lines.{listed_by, lent_work, lent_out, lent_own}
 use Rattle.rows.specs.Lent.{index_of}
-use Rattle.rows.specs.Output.{INPUT}
+use Rattle.rows.specs.Output.{INPUT, place_of}
 
 unfoldable pub line_record : List ℕ → Reply → List ℕ → List (List ℕ)
 line_record name r node = name ∷ decimal r.refusal ∷ decimal r.place ∷ node ∷ []
@@ -46,9 +46,9 @@ table_records T =
 unfoldable pub head_record : List (List ℕ)
 head_record = bytes "search" ∷ bytes "refusal" ∷ bytes "place" ∷ bytes "node" ∷ []
 
-unfoldable pub read_records : List ℕ → Read → List (List (List ℕ))
-read_records s (Broken place) = line_record (bytes "input") (refused INPUT place) [] ∷ []
-read_records s (Taken t) = table_records (table_of (lines s))
+unfoldable pub read_records : List ℕ → Result Shape Broken → List (List (List ℕ))
+read_records s (Err b) = line_record (bytes "input") (refused INPUT (place_of b)) [] ∷ []
+read_records s (Ok t) = table_records (table_of (lines s))
 
 unfoldable pub output_records : List ℕ → List (List (List ℕ))
 output_records s = head_record ∷ read_records s (read_of s)
