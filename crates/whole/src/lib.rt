@@ -10,7 +10,6 @@ ghost use Rattle.whole.specs.Promises.{Whole};
 pub fn answer_whole(input: &[u8; 16385], n: usize, output: &mut [u8; 16384]) -> usize
     ensures { Whole (take n input.now) output.old output.new result }
 {
-    let all: &[u8] = input;
-    let m = seq::least(n, all.len());
-    rows::answer_table(&all[..m], output)
+    let m = n.min(input.len());
+    rows::answer_table(&input[..m], output)
 }
