@@ -5,44 +5,29 @@ ghost use Rattle.table.specs.Reading.{step_of};
 use std::io;
 use std::io::Read;
 
-// What reading gives: how many bytes were put at the front of the buffer, or that a read failed, and why.
-#[derive(Drop)]
-pub(crate) enum Input {
-    Bytes(usize),
-    Failed(io::Error),
-}
-
-// What one read tells: how many bytes came, that the input has ended, or that the read failed, and why.
-#[derive(Drop)]
-enum Step {
-    Came(usize),
-    Ended,
-    Failed(io::Error),
-}
-
-// What `read` answered.
-fn step_of(got: io::Result<usize>) -> Step
+// What an answer of `read` means: why it failed, or how many bytes came, none at the end of the input.
+#[tactic(auto, unfolding(crate::specs::Reading::step_of))]
+fn step_of(got: io::Result<usize>) -> io::Result<Option<usize>>
     ensures { result ≡ step_of got }
 {
     match got {
-        Err(e) => Step::Failed(e),
-        Ok(0) => Step::Ended,
-        Ok(n) => Step::Came(n),
+        Err(e) => Err(e),
+        Ok(0) => Ok(None),
+        Ok(n) => Ok(Some(n)),
     }
 }
 
-// Reads until the input ends, the array is full or a read fails. It takes the whole array, as `whole::answer_whole` does, so that no program can read less.
-pub(crate) fn read_input(from: &mut impl Read, input: &mut [u8; 16385]) -> Input {
+// Reads until the input ends, the array is full or a read fails: how many bytes were put at the front of the array. It takes the whole array, as
+// `whole::answer_whole` does, so that no program can read less.
+pub(crate) fn read_input(from: &mut impl Read, input: &mut [u8; 16385]) -> io::Result<usize> {
     let buf: &mut [u8] = input;
     let mut at: usize = 0;
     while at < buf.len() {
         let got = from.read(&mut buf[at..]);
-        let next = step_of(got);
-        match next {
-            Step::Came(n) => at += n,
-            Step::Ended => return Input::Bytes(at),
-            Step::Failed(e) => return Input::Failed(e),
+        match step_of(got)? {
+            Some(n) => at += n,
+            None => return Ok(at),
         }
     }
-    Input::Bytes(at)
+    Ok(at)
 }

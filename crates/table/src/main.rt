@@ -4,7 +4,7 @@
 
 mod input;
 
-use input::{Input, read_input};
+use input::read_input;
 use std::fs::{File, OpenFile};
 use std::io::{Cursor, ErrorKind, Write};
 use std::process::ExitCode;
@@ -60,15 +60,13 @@ fn main(rt: HostRuntime) -> ExitCode {
     let mut input = [0u8; 16385];
     // no shorter array fits `answer_whole`, which takes one that holds every output
     let mut output = [0u8; 16384];
-    let got = read_input(&mut rt.stdin(), &mut input);
-    match got {
-        Input::Failed(e) => fail(&rt, "cannot read the input", e),
-        Input::Bytes(n) => {
-            let m = answer_whole(&input, n, &mut output);
-            match print(&rt, &output[..m]) {
-                Err(e) => fail(&rt, "cannot write the answers", e),
-                Ok(()) => ExitCode::SUCCESS,
-            }
-        }
+    let n = match read_input(&mut rt.stdin(), &mut input) {
+        Ok(n) => n,
+        Err(e) => return fail(&rt, "cannot read the input", e),
+    };
+    let m = answer_whole(&input, n, &mut output);
+    match print(&rt, &output[..m]) {
+        Ok(()) => ExitCode::SUCCESS,
+        Err(e) => fail(&rt, "cannot write the answers", e),
     }
 }
