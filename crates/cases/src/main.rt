@@ -2,25 +2,20 @@
 // A line for each call: e for ELCA or s for SLCA; refusal, place and total; then out as it is left, and for ELCA own. Both are lent full of 99.
 #![tactic(auto)]
 
+use index::Reply;
 use std::io;
 
 const PARENTS: [u32; 18] = [0, 0, 1, 2, 3, 2, 5, 1, 7, 8, 7, 10, 0, 12, 13, 14, 0, 16];
 
 const TAGS: [u32; 18] = [1, 2, 3, 4, 0, 5, 0, 3, 4, 0, 6, 0, 2, 3, 5, 0, 7, 0];
 
-fn mark(rt: &impl Print, letter: char) -> io::Result<()> {
-    print!(rt; "{letter}")
-}
-
-fn print(rt: &impl Print, number: u32) -> io::Result<()> {
-    print!(rt; " {number}")
-}
-
-fn print_all(rt: &impl Print, list: &[u32]) -> io::Result<()> {
-    for number in list {
-        print(rt, *number)?;
+// The line of a call: its reply, and what it left in the lists that it was lent.
+fn print(rt: &impl Print, letter: char, r: Reply, out: &[u32], own: &[u32]) -> io::Result<()> {
+    print!(rt; "{letter} {} {} {}", r.refusal, r.place, r.total)?;
+    for number in out.iter().chain(own) {
+        print!(rt; " {number}")?;
     }
-    Ok(())
+    println!(rt)
 }
 
 fn elca(
@@ -45,13 +40,7 @@ fn elca(
         &mut *out,
         &mut own,
     );
-    mark(rt, 'e')?;
-    print(rt, r.refusal)?;
-    print(rt, r.place)?;
-    print(rt, r.total)?;
-    print_all(rt, &*out)?;
-    print_all(rt, &own)?;
-    mark(rt, '\n')
+    print(rt, 'e', r, out, &own)
 }
 
 fn slca(
@@ -74,12 +63,7 @@ fn slca(
         &mut work,
         &mut out,
     );
-    mark(rt, 's')?;
-    print(rt, r.refusal)?;
-    print(rt, r.place)?;
-    print(rt, r.total)?;
-    print_all(rt, &out)?;
-    mark(rt, '\n')
+    print(rt, 's', r, &out, &[])
 }
 
 // Cases 1, 2 and 11: the words A and Z, with room for five, for one and for two answers.

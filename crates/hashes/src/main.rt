@@ -3,13 +3,9 @@
 
 use std::io;
 
-fn print(rt: &impl Print, word: &[u8]) -> io::Result<()> {
-    println!(rt; "{}", inplace::hash_of(word))
-}
-
 fn main(rt: HostRuntime) -> io::Result<()> {
-    print(&rt, b"")?;
-    print(&rt, b"a")?;
-    print(&rt, b"foobar")?;
-    print(&rt, b"FooBar")
+    for word in ["", "a", "foobar", "FooBar"] {
+        println!(rt; "{}", inplace::hash_of(word.as_bytes()))?;
+    }
+    Ok(())
 }

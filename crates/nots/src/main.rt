@@ -8,21 +8,6 @@ const PARENTS: [u32; 18] = [0, 0, 1, 2, 3, 2, 5, 1, 7, 8, 7, 10, 0, 12, 13, 14, 
 
 const TAGS: [u32; 18] = [1, 2, 3, 4, 0, 5, 0, 3, 4, 0, 6, 0, 2, 3, 5, 0, 7, 0];
 
-fn mark(rt: &impl Print, letter: char) -> io::Result<()> {
-    print!(rt; "{letter}")
-}
-
-fn print(rt: &impl Print, number: u32) -> io::Result<()> {
-    print!(rt; " {number}")
-}
-
-fn print_all(rt: &impl Print, list: &[u32]) -> io::Result<()> {
-    for number in list {
-        print(rt, *number)?;
-    }
-    Ok(())
-}
-
 // One positive word and one negative word.
 fn valid(rt: &impl Print, ends: &[u32], occurrences: &[u32], counts: &[u32]) -> io::Result<()> {
     let mut work = [99; 95];
@@ -38,12 +23,11 @@ fn valid(rt: &impl Print, ends: &[u32], occurrences: &[u32], counts: &[u32]) -> 
         &mut work,
         &mut out,
     );
-    mark(rt, 'v')?;
-    print(rt, r.refusal)?;
-    print(rt, r.place)?;
-    print(rt, r.total)?;
-    print_all(rt, &out)?;
-    mark(rt, '\n')
+    print!(rt; "v {} {} {}", r.refusal, r.place, r.total)?;
+    for number in out {
+        print!(rt; " {number}")?;
+    }
+    println!(rt)
 }
 
 // Case 6: A, NOT X.

@@ -9,12 +9,6 @@ fn show(rt: &impl Print, input: &[u8]) -> io::Result<()> {
     rt.write_all(&output[..m])
 }
 
-// 16,385 bytes.
-fn show_long(rt: &impl Print) -> io::Result<()> {
-    let input = [120u8; 16385];
-    show(rt, &input)
-}
-
 fn main(rt: HostRuntime) -> io::Result<()> {
     // 01's cases 1 and 2: A and Z
     show(
@@ -90,5 +84,5 @@ fn main(rt: HostRuntime) -> io::Result<()> {
     // a second end at the end
     show(&rt, b"parent,tag,+,#\r\n0,1,1,1\r\n\r\n")?;
     // one byte too many
-    show_long(&rt)
+    show(&rt, &[b'x'; 16385])
 }
