@@ -2,12 +2,25 @@
 // A line for each call: e for ELCA or s for SLCA; refusal, place and total; then out as it is left, and for ELCA own. Both are lent full of 99.
 #![tactic(auto)]
 
-use index::Reply;
+use index::{Lent, Reply};
 use std::io;
 
 const PARENTS: [u32; 18] = [0, 0, 1, 2, 3, 2, 5, 1, 7, 8, 7, 10, 0, 12, 13, 14, 0, 16];
 
 const TAGS: [u32; 18] = [1, 2, 3, 4, 0, 5, 0, 3, 4, 0, 6, 0, 2, 3, 5, 0, 7, 0];
+
+// The schedule with the lists and counts of p positive words.
+fn lend<'a>(p: u32, ends: &'a [u32], occurrences: &'a [u32], counts: &'a [u32]) -> Lent<'a> {
+    Lent {
+        parents: &PARENTS,
+        tags: &TAGS,
+        positive: p,
+        negative: 0,
+        ends,
+        occurrences,
+        counts,
+    }
+}
 
 // The line of a call: its reply, and what it left in the lists that it was lent.
 fn print(rt: &impl Print, letter: char, r: Reply, out: &[u32], own: &[u32]) -> io::Result<()> {
@@ -28,19 +41,13 @@ fn elca(
 ) -> io::Result<()> {
     let mut work = [99; 95];
     let mut own = [99; 9];
-    let r = elca::elca(
-        &PARENTS,
-        &TAGS,
-        p,
-        0,
-        ends,
-        occurrences,
-        counts,
+    let answer = elca::elca(
+        lend(p, ends, occurrences, counts),
         &mut work,
         &mut *out,
         &mut own,
     );
-    print(rt, 'e', r, out, &own)
+    print(rt, 'e', answer.into(), out, &own)
 }
 
 fn slca(
@@ -52,18 +59,8 @@ fn slca(
 ) -> io::Result<()> {
     let mut work = [99; 95];
     let mut out = [99; 5];
-    let r = slca::slca(
-        &PARENTS,
-        &TAGS,
-        p,
-        0,
-        ends,
-        occurrences,
-        counts,
-        &mut work,
-        &mut out,
-    );
-    print(rt, 's', r, &out, &[])
+    let answer = slca::slca(lend(p, ends, occurrences, counts), &mut work, &mut out);
+    print(rt, 's', answer.into(), &out, &[])
 }
 
 // Cases 1, 2 and 11: the words A and Z, with room for five, for one and for two answers.

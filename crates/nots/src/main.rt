@@ -2,6 +2,7 @@
 // A line for each call: refusal, place and total; then out as it is left. It is lent full of 99.
 #![tactic(auto)]
 
+use index::{Lent, Reply};
 use std::io;
 
 const PARENTS: [u32; 18] = [0, 0, 1, 2, 3, 2, 5, 1, 7, 8, 7, 10, 0, 12, 13, 14, 0, 16];
@@ -12,17 +13,16 @@ const TAGS: [u32; 18] = [1, 2, 3, 4, 0, 5, 0, 3, 4, 0, 6, 0, 2, 3, 5, 0, 7, 0];
 fn valid(rt: &impl Print, ends: &[u32], occurrences: &[u32], counts: &[u32]) -> io::Result<()> {
     let mut work = [99; 95];
     let mut out = [99; 5];
-    let r = valid::valid(
-        &PARENTS,
-        &TAGS,
-        1,
-        1,
+    let lent = Lent {
+        parents: &PARENTS,
+        tags: &TAGS,
+        positive: 1,
+        negative: 1,
         ends,
         occurrences,
         counts,
-        &mut work,
-        &mut out,
-    );
+    };
+    let r = Reply::from(valid::valid(lent, &mut work, &mut out));
     print!(rt; "v {} {} {}", r.refusal, r.place, r.total)?;
     for number in out {
         print!(rt; " {number}")?;

@@ -4,6 +4,7 @@ ghost use Rattle.rows.specs.Output.{answers_text};
 ghost use Rattle.rows.specs.Inner.{table_in};
 
 use crate::lend::Rows;
+use index::Lent;
 use report::{put_pair, put_valid};
 use sheet::Shape;
 use text::Writer;
@@ -38,26 +39,27 @@ pub(crate) fn put_answers(rows: &Rows, output: &mut Writer<u8>)
     for j in 0..p {
         rows.put_word(j, &mut ends, &mut occurrences, &mut counts);
     }
-    put_pair(
-        parents.written(),
-        tags.written(),
-        p as u32,
-        ends.written(),
-        occurrences.written(),
-        counts.written(),
-        &mut *output,
-    );
+    let positive = Lent {
+        parents: parents.written(),
+        tags: tags.written(),
+        positive: p as u32,
+        negative: 0,
+        ends: ends.written(),
+        occurrences: occurrences.written(),
+        counts: counts.written(),
+    };
+    put_pair(positive, &mut *output);
     for k in p..p + q {
         rows.put_word(k, &mut ends, &mut occurrences, &mut counts);
     }
-    put_valid(
-        parents.written(),
-        tags.written(),
-        p as u32,
-        q as u32,
-        ends.written(),
-        occurrences.written(),
-        counts.written(),
-        output,
-    )
+    let all = Lent {
+        parents: parents.written(),
+        tags: tags.written(),
+        positive: p as u32,
+        negative: q as u32,
+        ends: ends.written(),
+        occurrences: occurrences.written(),
+        counts: counts.written(),
+    };
+    put_valid(all, output)
 }
