@@ -2,7 +2,11 @@
 --   word-past, word-here, word-stops, word_jumps            the word at a place: past the end, at a letter or digit, at another byte, at a comment
 --   end-past, end-here, end-stops, end_jumps                the same of the place where it ends
 --   Seeking T a i        == the word at a goes on at i
--- Letters: T text, a b i j places, r the place of a letter. Assumes nothing.
+--   Hashing T a h i      == the hash of the word at a goes on from h at the place i, and so does the word
+--   Pair T a b i j       == the words at a and b are the same exactly if those at i and j are
+--   Spelling T a w i j   == the word at a is w, in lower case, exactly if that at i is w from its byte j on
+--   Hashes w h j         == the hash of w, in lower case, goes on from h at its byte j
+-- Letters: T text, a b i j places, w a word that is lent, h a hash. Assumes nothing.
 use Prim.Native.Nat.{ℕ, suc, pred, ◌+◌, ◌≤◌, ◌<◌}
 use mathlib.Core.Path.{◌≡◌, refl, sym, ap, ap₂, ◌∙◌}
 use mathlib.Core.Logic.{⊎_elim}
@@ -134,7 +138,7 @@ module _ (T : List ℕ) (a i : ℕ) (s : Seeking T a i) where
       to : i + suc g ≡ j
       to = omega (arith, some)
 
--- ---- hash_word: the hash of the word at a goes on from h at i, where its letters so far end
+-- ---- hash_word
 abbrev hashed : ℕ → ℕ → Hashed
 hashed h i = record { hash = h; end = i }
 
@@ -240,7 +244,7 @@ module _ (T : List ℕ) (a : ℕ) (w : Word) (i j : ℕ) (s : Spelling T a w i j
   spelling_end l None f r e = not-false r (sym e) ∙ sym (s.same ∙ ap₂ same_list (drop-last w j l) f.word ∙ same_ends)
   spelling_end l (Some p) f r e = not-true r (sym e) ∙ sym (s.same ∙ ap₂ same_list (drop-last w j l) f.word ∙ same-short _ _)
 
--- The hash of a word that is lent goes on from h at its byte j.
+-- ---- hash_of
 pub record Hashes (w : Word) (h j : ℕ) : Type 0 where
   pub hash : hash_from h (map lower (drop j w)) ≡ hash_of (map lower w)
 
