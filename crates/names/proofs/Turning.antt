@@ -1,5 +1,6 @@
 -- A turn of `take_all`, as `take_up` makes it: what its calls ask, and what it leaves.
 --   name-cut, name-is, name-none, name-some, name-ends   what `skip` has gone over is the name at a place
+--   named_lately                    the row of the names met lately may change
 --   walk-pre, found-leader          the rows hold a tree, and the leaf found is an earlier node with a number
 --   turned_data, turned-empty, turned-first, turned_same, turned-new   the five ways to number a node
 -- Letters as in specs/Inner/Calls: x the name of v, p the place of the name found, y the leaf found. Assumes nothing.
@@ -18,7 +19,9 @@ use Rattle.profile.specs.Tags.{known}
 use Rattle.profile.proofs.Laws.Spans.{each-drop, span_le}
 use Rattle.profile.proofs.Classes.{span-name_char}
 use Rattle.names.specs.Inner.Tree.{find}
-use Rattle.names.specs.Inner.Calls.{name_bit, name_here, Name, NamesDiffer, Twin, WalkPre, Found, Grown, Put, linked, Leader, Index, State, TurnPre, Turned}
+use Rattle.names.specs.declared.Numberer.{Numberer}
+use Rattle.names.specs.declared.lookup.Tree as lookup
+use Rattle.names.specs.Inner.Calls.{name_bit, name_here, Name, NamesDiffer, Twin, WalkPre, Found, Grown, Put, linked, Leader, Index, State, TurnPre, Turned, NamedPre}
 use Rattle.names.proofs.Shape.{find_in}
 use Rattle.names.proofs.Comparing.{name-long, name-here}
 use Rattle.names.proofs.Numbering.{state_data, state-empty, state-same, state-new}
@@ -44,16 +47,28 @@ module _ (t : List ℕ) (o r : ℕ) (b : EachBelow 256 t) (e : r ≡ o + span (w
   pub name-ends : (r ≡ o → ⊥) → r ≤ length t
   name-ends f = omega (arith, e, f, span_le (within NAMECHARS) (drop o t), length-drop o t)
 
+-- Which nodes were met lately says nothing of what is numbered.
+pub named_lately : (x : List ℕ) (b : Numberer) (w : lookup.Tree) (v : ℕ) (l : List ℕ) → NamedPre x b w v → NamedPre x (record b { lately = l }) w v
+named_lately x b w v l p = record {
+  ready = record { turn = p.ready.turn; n = p.ready.n; bytes = p.ready.bytes };
+  marked = p.marked;
+  name = p.name;
+  here = p.here;
+  some = p.some;
+}
+
 -- ---- the tree
 module _ (t fs : List ℕ) (v c : ℕ) (ts w : List ℕ) (pre : TurnPre t fs v c ts w) (some : c ≡ 0 → ⊥) where
   index-here : Index t fs (length ts) v pre.state.seen ts w
   index-here = subst (λ (n : ℕ). Index t fs n v pre.state.seen ts w) (sym pre.state.long) (pre.state.index some)
 
-  pub walk-pre : WalkPre w (length ts)
-  walk-pre = record { few = pre.fit.few; long = pre.fit.long; tree = index-here.tree; holds = index-here.holds }
+  pub walk-pre : (n : ℕ) → n ≡ length ts → WalkPre w n
+  walk-pre n e = rw e (record { few = pre.fit.few; long = pre.fit.long; tree = index-here.tree; holds = index-here.holds })
 
-  pub found-leader : (x : List ℕ) (y : ℕ) → Found x w (length ts) y → Leader v ts y
-  found-leader x y f = index-here.leader y (rw (f.leads index-here.tree index-here.holds) (find_in (name_bit x) index-here.tree))
+  pub found-leader : (x : List ℕ) (y n : ℕ) → n ≡ length ts → Found x w n y → Leader v ts y
+  found-leader x y n e g =
+      let f : Found x w (length ts) y = subst (λ (n : ℕ). Found x w n y) e g in
+      index-here.leader y (rw (f.leads index-here.tree index-here.holds) (find_in (name_bit x) index-here.tree))
 
 -- ---- the five ways
 module _ (t fs : List ℕ) (v c : ℕ) (ts w : List ℕ) (l : v < length ts) where
@@ -92,7 +107,10 @@ module _ (t fs : List ℕ) (v c : ℕ) (ts w : List ℕ) (l : v < length ts) whe
         moves = λ ms w₀ s. rw T.number (state-same t fs ms w₀ v ts w c s l marked long T.node T.before (λ e. T.some (T.number ∙ e)) (sym ex ∙ T.name));
       }
 
-      module _ (old : c ≡ 0 → ⊥) (y p : ℕ) (ep : p ≡ get_or fs y 0 + 1) (f : Found x w (length ts) y) where
+      module _ (old : c ≡ 0 → ⊥) (y p : ℕ) (ep : p ≡ get_or fs y 0 + 1) (n : ℕ) (en : n ≡ length ts) (found-at : Found x w n y) where
+        f : Found x w (length ts) y
+        f = subst (λ (n : ℕ). Found x w n y) en found-at
+
         module _ (ms w₀ : List ℕ) (s : State t fs ms w₀ v ts w c) where
           abbrev index : Index t fs (length ms) v s.seen ts w
           index = s.index old
@@ -101,7 +119,10 @@ module _ (t fs : List ℕ) (v c : ℕ) (ts w : List ℕ) (l : v < length ts) whe
           found =
               f.leads index.tree (rw s.long index.holds) ∙ ap (λ (z : List ℕ). find (name_bit z) index.tree) ex
 
-        module _ (d : ℕ) (diff : NamesDiffer x (name_at t p) d) (w' : List ℕ) (put : Put x w (length ts) v d w') (fit : 3 * length ts ≤ length w) where
+        module _ (d : ℕ) (diff : NamesDiffer x (name_at t p) d) (w' : List ℕ) (put-at : Put x w n v d w') (fit : 3 * length ts ≤ length w) where
+          put : Put x w (length ts) v d w'
+          put = subst (λ (n : ℕ). Put x w n v d w') en put-at
+
           differ : NamesDiffer (name_here t fs v) (name_here t fs y) d
           differ = rw (sym ex, sym ep) diff
 

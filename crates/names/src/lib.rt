@@ -5,95 +5,112 @@
 
 ghost use Rattle.std.specs.Prelude.{◌≡◌};
 ghost use Rattle.names.specs.Names.{fits, Numbered};
-ghost use Rattle.names.specs.Inner.Calls.{Fit, TurnPre, NamedPre, Turned, All};
+ghost use Rattle.names.specs.Inner.Calls.{Fit, Ready, NamedPre, TurnedHere, Fresh, All, AllHere, SameLent, SameRows};
 
 mod compare;
 mod link;
 mod lookup;
 mod recent;
 
-use link::Link;
+use lookup::Tree;
 
 // The names met lately are asked while fewer names than this were seen. Their row has so many places: with more names, most nodes in it would have another one.
 const FEW: u32 = 256;
 
-// Numbers node v, which has a mark and this name, by the tree; and says how many names were seen then: `count` before it.
-fn by_tree(
-    name: &[u8],
-    text: &[u8],
-    firsts: &[u32],
-    v: usize,
+// The text and its nodes: the places of their `<`, and their marks, which become tags; the names met lately; and how many names were seen.
+#[derive(Drop)]
+struct Numberer<'t, 'f, 'a> {
+    text: &'t [u8],
+    firsts: &'f [u32],
+    tags: &'a mut [u32],
+    lately: [usize; 256],
     count: u32,
-    tags: &mut [u32],
-    work: &mut [u32],
-) -> u32
-    requires { NamedPre name.now text.now firsts.now v count tags.old work.old }
-    ensures { Turned text.now firsts.now v count tags.old work.old tags.new work.new result }
-{
-    if count == 0 {
-        work[0] = Link::Leaf(v).number();
-        tags[v] = 1;
-        return 1;
-    }
-    let n = tags.len();
-    let y = lookup::find(name, &*work, n);
-    match compare::differ(name, text, firsts[y] as usize + 1) {
-        None => {
-            tags[v] = tags[y];
-            count
+}
+
+impl Numberer<'_, '_, '_> {
+    // Numbers node v, which has a mark and this name, by the tree.
+    fn by_tree(&mut self, tree: &mut Tree, name: &[u8], v: usize)
+        requires { NamedPre name.now self.old tree.old v }
+        ensures turned { TurnedHere self.old tree.old self.new tree.new v }
+        ensures same { SameLent self.old self.new }
+        ensures same_tree { SameRows tree.old tree.new }
+    {
+        if self.count == 0 {
+            tree.plant(v);
+            self.tags[v] = 1;
+            self.count = 1;
+            return;
         }
-        Some(d) => {
-            lookup::put(name, work, n, v, d);
-            tags[v] = count + 1;
-            count + 1
+        let y = tree.find(name);
+        match compare::differ(name, self.text, self.firsts[y] as usize + 1) {
+            None => self.tags[v] = self.tags[y],
+            Some(d) => {
+                tree.put(name, v, d);
+                self.count += 1;
+                self.tags[v] = self.count;
+            }
+        }
+    }
+
+    // Numbers node v. While few names were seen, the names met lately are asked before the tree.
+    fn take_up(&mut self, tree: &mut Tree, v: usize)
+        requires { Ready self.old tree.old v }
+        ensures turned { TurnedHere self.old tree.old self.new tree.new v }
+        ensures same { SameLent self.old self.new }
+        ensures same_tree { SameRows tree.old tree.new }
+    {
+        if self.tags[v] == 0 {
+            return;
+        }
+        let place = self.firsts[v] as usize + 1;
+        let text = self.text;
+        let end = octets::skip(text, place, octets::NAMECHARS);
+        if end == place {
+            self.tags[v] = 0;
+            return;
+        }
+        let name = &text[place..end];
+        if self.count < FEW {
+            let key = recent::key(name);
+            if let Some(tag) = self.tag_of(name, v, self.lately[key]) {
+                self.tags[v] = tag;
+                return;
+            }
+            self.lately[key] = v;
+        }
+        self.by_tree(tree, name, v);
+    }
+
+    // Numbers all nodes, in order.
+    fn take_all(&mut self, tree: &mut Tree)
+        requires { Fresh self.old tree.old }
+        ensures numbered { AllHere self.old tree.old self.new tree.new }
+        ensures same { SameLent self.old self.new }
+        ensures same_tree { SameRows tree.old tree.new }
+    {
+        for v in 0..self.tags.len() {
+            self.take_up(&mut *tree, v);
         }
     }
 }
 
-// Numbers node v, and says how many names were seen then: `count` before it. While they are few, the names met lately are asked before the tree.
-fn take_up(
-    text: &[u8],
-    firsts: &[u32],
-    v: usize,
-    count: u32,
-    lately: &mut [usize; 256],
-    tags: &mut [u32],
-    work: &mut [u32],
-) -> u32
-    requires { TurnPre text.now firsts.now v count tags.old work.old }
-    ensures { Turned text.now firsts.now v count tags.old work.old tags.new work.new result }
-{
-    if tags[v] == 0 {
-        return count;
-    }
-    let place = firsts[v] as usize + 1;
-    let end = octets::skip(text, place, octets::NAMECHARS);
-    if end == place {
-        tags[v] = 0;
-        return count;
-    }
-    let name = &text[place..end];
-    if count < FEW {
-        let key = recent::key(name);
-        if let Some(tag) = recent::tag_of(name, text, firsts, &*tags, v, lately[key]) {
-            tags[v] = tag;
-            return count;
-        }
-        lately[key] = v;
-    }
-    by_tree(name, text, firsts, v, count, tags, work)
-}
-
-// Numbers all nodes, in order. What the rows hold then is of no use.
-fn take_all(text: &[u8], firsts: &[u32], tags: &mut [u32], work: &mut [u32])
+// Numbers all nodes. What the rows hold then is of no use.
+fn number_all(text: &[u8], firsts: &[u32], tags: &mut [u32], work: &mut [u32])
     requires { Fit text.now firsts.now tags.old work.old }
     ensures { All text.now firsts.now tags.old work.old tags.new work.new }
 {
-    let mut lately: [usize; 256] = [0; 256];
-    let mut count: u32 = 0;
-    for v in 0..tags.len() {
-        count = take_up(text, firsts, v, count, &mut lately, &mut *tags, &mut *work);
-    }
+    let mut tree = Tree {
+        rows: &mut *work,
+        n: tags.len(),
+    };
+    let mut numberer = Numberer {
+        text,
+        firsts,
+        tags: &mut *tags,
+        lately: [0; 256],
+        count: 0,
+    };
+    numberer.take_all(&mut tree);
 }
 
 // Whether all fits: at most 65,536 nodes, a place for each, three entries of work for each, and at most 16,777,216 bytes of text.
@@ -116,7 +133,7 @@ pub fn number(text: &[u8], firsts: &[u32], tags: &mut [u32], work: &mut [u32]) -
         return false;
     }
     let m = 3 * tags.len();
-    take_all(text, firsts, tags, &mut *work);
+    number_all(text, firsts, tags, &mut *work);
     seq::clear(&mut work[..m]);
     true
 }

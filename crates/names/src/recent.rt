@@ -3,7 +3,7 @@
 ghost use Rattle.std.specs.Prelude.{◌<◌, ◌≤◌, length};
 ghost use Rattle.names.specs.Inner.Calls.{KeyPre, RecallPre, Recalled};
 
-use crate::compare;
+use crate::{Numberer, compare};
 
 // The key of a name: a number below 256, made of its size, its first and its last byte.
 pub(crate) fn key(name: &[u8]) -> usize
@@ -15,21 +15,19 @@ pub(crate) fn key(name: &[u8]) -> usize
     (5 * first + 17 * last + name.len()) % 256
 }
 
-// The number of y, if it is a node before v and has a number and this name.
-pub(crate) fn tag_of(
-    name: &[u8],
-    text: &[u8],
-    firsts: &[u32],
-    tags: &[u32],
-    v: usize,
-    y: usize,
-) -> Option<u32>
-    requires { RecallPre name.now firsts.now tags.now v }
-    ensures { Recalled name.now text.now firsts.now tags.now v result }
-{
-    if y < v && tags[y] != 0 && compare::same(name, text, firsts[y] as usize + 1) {
-        Some(tags[y])
-    } else {
-        None
+impl Numberer<'_, '_, '_> {
+    // The number of y, if it is a node before v and has a number and this name.
+    pub(crate) fn tag_of(&self, name: &[u8], v: usize, y: usize) -> Option<u32>
+        requires { RecallPre name.now self.now v }
+        ensures { Recalled name.now self.now v result }
+    {
+        if y < v
+            && self.tags[y] != 0
+            && compare::same(name, self.text, self.firsts[y] as usize + 1)
+        {
+            Some(self.tags[y])
+        } else {
+            None
+        }
     }
 }

@@ -12,12 +12,15 @@
 --   State t fs ms w₀ v ts w c == the nodes before v are numbered: ts and w are what the marks ms and the work w₀ have become, and c names were seen
 -- Letters: t text, fs places of the nodes, o p places; x y bytes or names; l link, k its number; n nodes, u v nodes, q place of a link, d bit; seen names seen. Assumes nothing.
 use Rattle.std.specs.Prelude.{ℕ, suc, ◌+◌, ◌*◌, ◌/◌, ◌%◌, ◌≤◌, ◌<◌, ◌≡◌, List, ◌++◌, Bool, true, cond, eqb, length, get_or, set, take, drop, Option, None, Some}
+use Rattle.seq.specs.Lists.{EachBelow}
 use Rattle.profile.specs.Bytes.{name_char}
 use Rattle.profile.specs.Spans.{name_at}
 use Rattle.profile.specs.Tags.{known, place, tags_after, tags_of}
 use Rattle.names.specs.Inner.Bits.{bit_of}
 use Rattle.names.specs.declared.link.Link.{Link}
 use Rattle.names.specs.declared.link.Link.TheVariants.{Leaf, Inner}
+use Rattle.names.specs.declared.Numberer.{Numberer}
+use Rattle.names.specs.declared.lookup.Tree as lookup
 use Rattle.names.specs.Names.{names}
 use Rattle.names.specs.Inner.Tree.{Tree, In, Has, Apart, bits, Rep, Told, find, Grow}
 
@@ -68,11 +71,11 @@ pub record KeyPre (x : List ℕ) : Type 0 where
   pub some : 0 < length x
 
 -- The node v, whose name is x, is one of the nodes.
-pub record RecallPre (x fs ts : List ℕ) (v : ℕ) : Type 0 where
+pub record RecallPre (x : List ℕ) (b : Numberer) (v : ℕ) : Type 0 where
   pub name : Name x
-  pub node : v < length ts
-  pub few : length ts ≤ 65536
-  pub placed : length ts ≤ length fs
+  pub node : v < length b.tags.now
+  pub few : length b.tags.now ≤ 65536
+  pub placed : length b.tags.now ≤ length b.firsts.now
 
 -- A node before v that has the name x, and r as its number.
 pub record Twin (x t fs ts : List ℕ) (v r : ℕ) : Type 0 where
@@ -83,8 +86,8 @@ pub record Twin (x t fs ts : List ℕ) (v r : ℕ) : Type 0 where
   pub name : x ≡ name_here t fs node
 
 -- What r has, if anything, is the number of such a node.
-pub record Recalled (x t fs ts : List ℕ) (v : ℕ) (r : Option ℕ) : Type 0 where
-  pub twin : (m : ℕ) → r ≡ Some m → Twin x t fs ts v m
+pub record Recalled (x : List ℕ) (b : Numberer) (v : ℕ) (r : Option ℕ) : Type 0 where
+  pub twin : (m : ℕ) → r ≡ Some m → Twin x b.text.now b.firsts.now b.tags.now v m
 
 -- ---- links
 unfoldable pub link_of : ℕ → Link
@@ -99,6 +102,15 @@ number_of (Leaf v) = 2 * v
 number_of (Inner u) = 2 * u + 1
 
 -- ---- the tree
+pub record SameRows (b b' : lookup.Tree) : Type 0 where
+  pub rows : b'.rows.ghost_name ≡ b.rows.ghost_name
+  pub n : b'.n ≡ b.n
+
+pub record PlantPre (w : List ℕ) (n v : ℕ) : Type 0 where
+  pub few : n ≤ 65536
+  pub long : 3 * n ≤ length w
+  pub node : v < n
+
 unfoldable pub way_of : ℕ → (ℕ → Bool) → List ℕ → ℕ → ℕ
 way_of n β w u = cond (β (get_or w (2 * n + u) 0)) (n + u) u
 
@@ -206,20 +218,43 @@ pub record TurnPre (t fs : List ℕ) (v c : ℕ) (ts w : List ℕ) : Type 0 wher
   pub work : List ℕ
   pub state : State t fs marks work v ts w c
 
--- And v, which has a mark, has the name x.
-pub record NamedPre (x t fs : List ℕ) (v c : ℕ) (ts w : List ℕ) : Type 0 where
-  pub turn : TurnPre t fs v c ts w
-  pub marked : get_or ts v 0 ≡ 0 → ⊥
-  pub name : Name x
-  pub here : x ≡ name_here t fs v
-  pub some : length x ≡ 0 → ⊥
-
 -- Then v is numbered too.
 pub record Turned (t fs : List ℕ) (v c : ℕ) (ts w ts' w' : List ℕ) (c' : ℕ) : Type 0 where
   pub moves : (ms w₀ : List ℕ) → State t fs ms w₀ v ts w c → State t fs ms w₀ (v + 1) ts' w' c'
+
+-- The same of a numbering: the nodes before v are numbered; and v, which has a mark, has the name x; then v is numbered too, and what is lent is the same.
+pub record Ready (b : Numberer) (w : lookup.Tree) (v : ℕ) : Type 0 where
+  pub turn : TurnPre b.text.now b.firsts.now v b.count b.tags.now w.rows.now
+  pub n : w.n ≡ length b.tags.now
+  pub bytes : EachBelow 256 b.text.now
+
+pub record NamedPre (x : List ℕ) (b : Numberer) (w : lookup.Tree) (v : ℕ) : Type 0 where
+  pub ready : Ready b w v
+  pub marked : get_or b.tags.now v 0 ≡ 0 → ⊥
+  pub name : Name x
+  pub here : x ≡ name_here b.text.now b.firsts.now v
+  pub some : length x ≡ 0 → ⊥
+
+abbrev pub TurnedHere : Numberer → lookup.Tree → Numberer → lookup.Tree → ℕ → Type 0
+TurnedHere b w b' w' v = Turned b.text.now b.firsts.now v b.count b.tags.now w.rows.now b'.tags.now w'.rows.now b'.count
+
+pub record SameLent (b b' : Numberer) : Type 0 where
+  pub text : b'.text.now ≡ b.text.now
+  pub firsts : b'.firsts.now ≡ b.firsts.now
+  pub tags : b'.tags.ghost_name ≡ b.tags.ghost_name
+
+-- Nothing is numbered yet.
+pub record Fresh (b : Numberer) (w : lookup.Tree) : Type 0 where
+  pub fit : Fit b.text.now b.firsts.now b.tags.now w.rows.now
+  pub n : w.n ≡ length b.tags.now
+  pub bytes : EachBelow 256 b.text.now
+  pub count : b.count ≡ 0
 
 -- All nodes are numbered.
 pub record All (t fs ms w₀ ts w : List ℕ) : Type 0 where
   pub tags : ts ≡ tags_of (names t ms fs)
   pub rows : length w ≡ length w₀
   pub rest : (i : ℕ) → 3 * length ms ≤ i → get_or w i 0 ≡ get_or w₀ i 0
+
+abbrev pub AllHere : Numberer → lookup.Tree → Numberer → lookup.Tree → Type 0
+AllHere b w b' w' = All b.text.now b.firsts.now b.tags.now w.rows.now b'.tags.now w'.rows.now

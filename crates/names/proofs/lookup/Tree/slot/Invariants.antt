@@ -2,10 +2,10 @@
 use lib.ListN.{get_or}
 use Rattle.names.specs.Inner.Calls.{name_bit}
 use Rattle.names.proofs.Walking.{ahead, Downs}
-use Rattle.names.proofs.lookup.slot.Given as goal
+use Rattle.names.proofs.lookup.Tree.slot.Given as goal
 
 abbrev pub invariant-loop-u : goal.invariant-loop-u
-invariant-loop-u l = Downs l.n l.work (name_bit l.name) l.d l.at
+invariant-loop-u l = Downs l.self.n l.self.rows.now (name_bit l.name) l.d l.at
 
 abbrev pub decreases-loop-u : goal.decreases-loop-u
-decreases-loop-u l = ahead l.n l.work (get_or l.work l.at 0)
+decreases-loop-u l = ahead l.self.n l.self.rows.now (get_or l.self.rows.now l.at 0)

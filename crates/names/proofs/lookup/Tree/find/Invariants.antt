@@ -2,10 +2,10 @@
 use lib.ListN.{get_or}
 use Rattle.names.specs.Inner.Calls.{name_bit}
 use Rattle.names.proofs.Walking.{ahead, Walks}
-use Rattle.names.proofs.lookup.find.Given as goal
+use Rattle.names.proofs.lookup.Tree.find.Given as goal
 
 abbrev pub invariant-loop-v : goal.invariant-loop-v
-invariant-loop-v l = Walks l.n l.work (name_bit l.name) l.at
+invariant-loop-v l = Walks l.self.n l.self.rows.now (name_bit l.name) l.at
 
 abbrev pub decreases-loop-v : goal.decreases-loop-v
-decreases-loop-v l = ahead l.n l.work (get_or l.work l.at 0)
+decreases-loop-v l = ahead l.self.n l.self.rows.now (get_or l.self.rows.now l.at 0)

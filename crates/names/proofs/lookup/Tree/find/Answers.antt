@@ -2,17 +2,17 @@
 use mathlib.Core.Path.{sym, ◌∙◌}
 use native.Mathlib.Omega.{arith}
 use Rattle.names.proofs.Walking.{walks_start, walks_turn, walks_step, walks_end}
-use Rattle.names.proofs.lookup.find.Goals as goal
-use Rattle.names.proofs.lookup.find.Goals.{In-Inner}
+use Rattle.names.proofs.lookup.Tree.find.Goals as goal
+use Rattle.names.proofs.lookup.Tree.find.Goals.{In-Inner}
 
 pub loop-v-init : goal.loop-v-init
 loop-v-init c = walks_start _ _ _ _ c.requires.holds
 
-pub offset_bounds-work-at : goal.offset_bounds-work-at
-offset_bounds-work-at c = omega (arith, c.loop-v.invariant.small, c.requires.few)
+pub offset_bounds-self-at : goal.offset_bounds-self-at
+offset_bounds-self-at c = omega (arith, c.loop-v.invariant.small, c.requires.few)
 
-pub bounds-work-at : goal.bounds-work-at
-bounds-work-at c = omega (arith, c.loop-v.invariant.small, c.requires.long)
+pub bounds-self-at : goal.bounds-self-at
+bounds-self-at c = omega (arith, c.loop-v.invariant.small, c.requires.long)
 
 pub returns-in-Leaf : goal.returns-in-Leaf
 returns-in-Leaf c = walks_end c.loop-v.invariant _ (sym c.from.ensures ∙ c.in-Leaf.is)
