@@ -1,5 +1,5 @@
 -- Laws of front, Wrote and Adds: buffers that are written from the front, as far as there is room. Assumes nothing.
---   front_fits                 what fits is written over the front
+--   front-over, front_fits     what fits is written over the front
 --   wrote_start, adds-nil      nothing is written yet, nothing is added
 --   adds-push, adds-full       one entry more, where there is room and where there is none
 --   adds-append                one addition after the other
@@ -12,7 +12,7 @@ use mathlib.Core.List.{List, [], ◌∷◌, ◌++◌, append-nil, append_assoc}
 use mathlib.Core.Logic.{⊎_elim}
 use native.Mathlib.Nat.{not-le_of_lt, not-suc-le-zero, le_of_suc-le-suc}
 use native.Mathlib.Omega.{arith}
-use lib.ListN.{length, set, take, drop, length-append, take-append-drop}
+use lib.ListN.{drop_of_length-le, length-take, length, set, take, drop, length-append, take-append-drop}
 use lib.Seq.{take_all, take-nil, drop-nil, take_at, length-take-le}
 use Rattle.seq.specs.Memory.{over}
 use Rattle.seq.proofs.Laws.Numbers.{less_or}
@@ -23,6 +23,17 @@ take_min {A} n k l e = ⊎_elim (λ (q : n < length l). ap (λ (i : ℕ). take i
   where
     short : n < length l → k ≡ n
     short q = omega arith
+
+-- Of w what fits is written over the front.
+pub front-over : (w o : List ℕ) → front w o ≡ over (take (length o) w) o
+unfolding front over
+front-over w o = ap (λ (t : List ℕ). take (length o) w ++ t) (⊎_elim cut all (less_or (length o) (length w)))
+  where
+    cut : length o < length w → drop (length w) o ≡ drop (length (take (length o) w)) o
+    cut h = drop_of_length-le o {i = length w} (omega arith) ∙ sym (drop_of_length-le o {i = length (take (length o) w)} (omega (arith, length-take (length o) w)))
+
+    all : length w ≤ length o → drop (length w) o ≡ drop (length (take (length o) w)) o
+    all h = ap (λ (t : List ℕ). drop (length t) o) (sym (take_all (length o) w h))
 
 pub front_fits : (w o : List ℕ) → length w ≤ length o → front w o ≡ over w o
 unfolding front over
