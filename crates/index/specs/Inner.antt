@@ -1,4 +1,4 @@
--- What the functions of this crate promise each other; no public contract cites it.
+-- What the functions of this crate promise each other, and what their inner loops ask and give; no public contract cites it.
 -- In work, the count check keeps the sums of a node side by side: word j's sum at node v is entry v * k + j.
 --   cell k w v j      == word j's sum at node v in work w
 --   Cells n k f w     == w holds f v j for each node v below n and each word j below k, and nothing else
