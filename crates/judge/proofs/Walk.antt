@@ -1,16 +1,19 @@
 -- The judge's walk over the pieces of a text.
---   Walk T S Z at d m b r   == at the place `at` the rest of the text comes to the same reply as the whole, from the state with these numbers
---   walk_start, walk_halts, walk-goes
--- Letters as in specs/Inner; d m b r the numbers of a state. Assumes nothing.
+--   Walk T N at s          == at the place `at` the rest of the text comes to the same reply as the whole, from the state s
+--   begun                  == the state in which a text begins
+--   walk_start, walk_halts, walk-goes, walk-less
+-- Letters as in specs/Inner; t the state behind the piece, N' the row then. Assumes nothing.
 use Prim.Native.Nat.{ℕ, ◌+◌, ◌-◌, ◌≤◌, ◌<◌}
 use mathlib.Core.Path.{◌≡◌, refl, sym, ap, ap₂, subst, ◌∙◌}
 use mathlib.Core.List.{List}
-use mathlib.Core.Bool.{Bool, true, false, false≢true}
+use mathlib.Core.Bool.{true, false}
 use native.Mathlib.Omega.{arith}
 use lib.ListN.{length, drop, length-drop}
 use lib.Seq.{drop-drop}
 use borrow.Author.Tests.{lt-ltb, le-ltb}
-use Rattle.index.specs.Replies.{SIZE, refused}
+use Rattle.std.proofs.Common.{Result}
+use Rattle.std.specs.declared.ops.ControlFlow.TheVariants.{Continue, Break}
+use Rattle.index.specs.Replies.{SIZE, refused, reply_of}
 use Rattle.profile.specs.Machine.{Place, b0, between}
 use Rattle.profile.specs.Check.{Tally, check, reply_to}
 use Rattle.profile.specs.Check as check
@@ -22,28 +25,28 @@ use Rattle.profile.proofs.PieceLaws.{piece_le, Good, went-of, turn-good}
 use Rattle.markup.specs.declared.Piece as markup
 use Rattle.markup.specs.Pieces.{piece_at}
 use Rattle.judge.specs.Judge.{longest, max_level, max_nodes, in_numbers, judge_reply}
-use Rattle.judge.specs.Inner.{place_of, tally_in, turn_of, Holds, TurnPre, reply_in, state_in, Told}
+use Rattle.judge.specs.Inner.{place_of, tally_in, turn_of, Holds, TurnPre, Told}
+use Rattle.judge.specs.declared.turns.Name.{Name}
 use Rattle.judge.specs.declared.turns.State.{State}
-use Rattle.judge.specs.declared.turns.Turn.{Turn}
+use Rattle.index.specs.declared.replies.Refusal.{Refusal}
 
-abbrev pub state : ℕ → ℕ → Bool → Bool → State
-state d m b r = record { depth = d; met = m; solid = b; rooted = r }
+abbrev pub begun : State
+begun = record { depth = 0; met = 0; solid = false; rooted = false }
 
-pub record Walk (T S Z : List ℕ) (at d m : ℕ) (b r : Bool) : Type 0 where
-  pub holds : Holds T (state d m b r) S Z
+pub record Walk (T : List ℕ) (N : List Name) (at : ℕ) (s : State) : Type 0 where
+  pub holds : Holds T s N
   pub place : at ≤ length T
-  pub names : lawful (place_of T S Z r d) ≡ true
-  pub same : reply_to max_level max_nodes T ≡ check max_level max_nodes at (between b0 (place_of T S Z r d)) (tally m d b) (drop at T)
+  pub names : lawful (place_of T N s.rooted s.depth) ≡ true
+  pub same : reply_to max_level max_nodes T ≡ check max_level max_nodes at (between b0 (place_of T N s.rooted s.depth)) (tally_in s) (drop at T)
 
-pub walk_start : (T S Z : List ℕ) → length T ≤ longest → length S ≡ 64 → length Z ≡ 64 → Walk T S Z 0 0 0 false false
+pub walk_start : (T : List ℕ) (N : List Name) → length T ≤ longest → length N ≡ 64 → Walk T N 0 begun
 unfolding reply_to place_of lawful
-walk_start T S Z l s z =
+walk_start T N l n =
     record {
       holds =
           record {
             short = l;
-            starts = s;
-            sizes = z;
+            names = n;
             deep = omega arith;
             many = omega arith;
             rooted = λ h. absurd (none h);
@@ -64,34 +67,34 @@ pub size-reply : (T : List ℕ) → longest < length T → refused SIZE 0 ≡ ju
 unfolding judge_reply
 size-reply T l = rw (lt-ltb longest (length T) l)
 
-module _ (T S Z : List ℕ) (at d m : ℕ) (b r : Bool) (w : Walk T S Z at d m b r) where
-  abbrev s : State
-  s = state d m b r
-
-  pub walk_asks : (p : markup.Piece) → p ≡ piece_at T at → TurnPre T at p s S Z
+module _ (T : List ℕ) (N : List Name) (at : ℕ) (s : State) (w : Walk T N at s) where
+  pub walk_asks : (p : markup.Piece) → p ≡ piece_at T at → TurnPre T at p s N
   walk_asks p e = record { holds = w.holds; place = w.place; piece = e }
 
   -- What the turn comes to.
   abbrev behind : Place → Tally → check.Reply
   behind p c = check max_level max_nodes (at + (piece_of (drop at T)).size) (between b0 p) c (drop (piece_of (drop at T)).size (drop at T))
 
-  followed : reply_to max_level max_nodes T ≡ follow (turn_of T at s S Z) behind
-  followed = w.same ∙ check-turn max_level max_nodes (place_of T S Z r d) w.names (tally m d b) at (drop at T)
+  followed : reply_to max_level max_nodes T ≡ follow (turn_of T at s N) behind
+  followed = w.same ∙ check-turn max_level max_nodes (place_of T N s.rooted s.depth) w.names (tally_in s) at (drop at T)
 
-  module _ (t : Turn) (S' Z' : List ℕ) (told : Told (turn_of T at s S Z) T t S' Z') where
-    -- By `profile`'s turn x.
-    halts_by : (x : turns.Turn) → turn_of T at s S Z ≡ x → Told x T t S' Z' → t.halted ≡ true → reply_in t ≡ in_numbers (reply_to max_level max_nodes T)
-    halts_by (halt q) e h y = h.reply ∙ ap in_numbers (sym (followed ∙ ap (λ x. follow x behind) e))
-    halts_by (go p c) e h y = absurd (false≢true (sym h.halted ∙ y))
+  -- By `profile`'s turn x.
+  halts_by : (e : Result ℕ Refusal) (N' : List Name) (x : turns.Turn) → turn_of T at s N ≡ x → Told x T (Break e) N' → reply_of e ≡ in_numbers (reply_to max_level max_nodes T)
+  halts_by r N' (halt q) e h = h ∙ ap in_numbers (sym (followed ∙ ap (λ x. follow x behind) e))
+  halts_by r N' (go p c) e h = absurd h
 
-    pub walk_halts : t.halted ≡ true → reply_in t ≡ judge_reply T
-    unfolding judge_reply
-    walk_halts y = halts_by (turn_of T at s S Z) refl told y ∙ sym (rw (le-ltb longest (length T) w.holds.short))
+  pub walk_halts : (e : Result ℕ Refusal) (N' : List Name) → Told (turn_of T at s N) T (Break e) N' → reply_of e ≡ judge_reply T
+  unfolding judge_reply
+  walk_halts e N' told = halts_by e N' (turn_of T at s N) refl told ∙ sym (rw (le-ltb longest (length T) w.holds.short))
 
-    goes_by : (x : turns.Turn) → turn_of T at s S Z ≡ x → Told x T t S' Z' → t.halted ≡ false →
-        Walk T S' Z' (at + (piece_of (drop at T)).size) t.depth t.met t.solid t.rooted
-    goes_by (halt q) e h y = absurd (false≢true (sym y ∙ h.halted))
-    goes_by (go p c) e h y =
+  module _ (t : State) (N' : List Name) (told : Told (turn_of T at s N) T (Continue t) N') where
+    size : ℕ
+    size = (piece_of (drop at T)).size
+
+    goes_by : (x : turns.Turn) → turn_of T at s N ≡ x → Told x T (Continue t) N' → Walk T N' (at + size) t
+    unfolding size
+    goes_by (halt q) e h = absurd h
+    goes_by (go p c) e h =
         record {
           holds = h.holds;
           place = omega (arith, piece_le (drop at T), length-drop at T, w.place);
@@ -99,27 +102,24 @@ module _ (T S Z : List ℕ) (at d m : ℕ) (b r : Bool) (w : Walk T S Z at d m b
           same =
               followed ∙ ap (λ x. follow x behind) e ∙
               ap₂ (λ p c. check max_level max_nodes (at + size) (between b0 p) c (drop size (drop at T))) (sym h.place) (sym h.tally) ∙
-              ap (λ u. check max_level max_nodes (at + size) (between b0 (place_of T S' Z' t.rooted t.depth)) (tally_in (state_in t)) u) (drop-drop size at T);
+              ap (λ u. check max_level max_nodes (at + size) (between b0 (place_of T N' t.rooted t.depth)) (tally_in t) u) (drop-drop size at T);
         }
       where
-        size : ℕ
-        size = (piece_of (drop at T)).size
-
         good : Good (piece_of (drop at T)) p c
-        good = went-of (Good (piece_of (drop at T))) (turn_of T at s S Z) p c (turn-good max_level max_nodes (tally m d b) at (place_of T S Z r d) w.names (drop at T)) e
+        good = went-of (Good (piece_of (drop at T))) (turn_of T at s N) p c (turn-good max_level max_nodes (tally_in s) at (place_of T N s.rooted s.depth) w.names (drop at T)) e
 
-    pub walk-goes : (p : markup.Piece) → p ≡ piece_at T at → t.halted ≡ false → Walk T S' Z' p.end t.depth t.met t.solid t.rooted
-    unfolding piece_at
-    walk-goes p e y =
-        subst (λ i. Walk T S' Z' i t.depth t.met t.solid t.rooted) (sym (ap (λ (p : markup.Piece). p.end) e)) (goes_by (turn_of T at s S Z) refl told y)
+    pub walk-goes : (p : markup.Piece) → p ≡ piece_at T at → Walk T N' p.end t
+    unfolding piece_at size
+    walk-goes p e = subst (λ i. Walk T N' i t) (sym (ap (λ (p : markup.Piece). p.end) e)) (goes_by (turn_of T at s N) refl told)
 
-    moves-by : (x : turns.Turn) → turn_of T at s S Z ≡ x → Told x T t S' Z' → t.halted ≡ false → 1 ≤ (piece_of (drop at T)).size
-    moves-by (halt q) e h y = absurd (false≢true (sym y ∙ h.halted))
-    moves-by (go p c) e h y =
-        (went-of (Good (piece_of (drop at T))) (turn_of T at s S Z) p c (turn-good max_level max_nodes (tally m d b) at (place_of T S Z r d) w.names (drop at T)) e).moves
+    moves-by : (x : turns.Turn) → turn_of T at s N ≡ x → Told x T (Continue t) N' → 1 ≤ size
+    unfolding size
+    moves-by (halt q) e h = absurd h
+    moves-by (go p c) e h =
+        (went-of (Good (piece_of (drop at T))) (turn_of T at s N) p c (turn-good max_level max_nodes (tally_in s) at (place_of T N s.rooted s.depth) w.names (drop at T)) e).moves
 
-    pub walk-less : (p : markup.Piece) → p ≡ piece_at T at → t.halted ≡ false → length T - p.end < length T - at
-    unfolding piece_at
-    walk-less p e y =
+    pub walk-less : (p : markup.Piece) → p ≡ piece_at T at → length T - p.end < length T - at
+    unfolding piece_at size
+    walk-less p e =
         omega
-        (arith, ap (λ (p : markup.Piece). p.end) e, moves-by (turn_of T at s S Z) refl told y, piece_le (drop at T), length-drop at T, w.place)
+        (arith, ap (λ (p : markup.Piece). p.end) e, moves-by (turn_of T at s N) refl told, piece_le (drop at T), length-drop at T, w.place)

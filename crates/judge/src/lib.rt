@@ -5,61 +5,43 @@
 mod turns;
 
 ghost use Rattle.std.specs.Prelude.{◌≡◌};
+ghost use Rattle.index.specs.Replies.{reply_of};
 ghost use Rattle.judge.specs.Judge.{judge_reply};
 
-// The number of 02's refusal for a text that is not of the profile.
-pub const MARKUP: u32 = 7;
+use index::Refusal;
+use std::ops::ControlFlow::{Break, Continue};
+use turns::{Name, State};
 
 // The longest text that is read, in bytes.
 pub const LONGEST: usize = 16777216;
 
-// Accepts a text of the profile within the limits, with the number of its nodes as the total. SIZE for a text that is too long; then whichever comes
-// first: MARKUP at the first byte at which no text of the profile continues, or TREE at the first node that is too deep or one too many.
-pub fn judge(text: &[u8]) -> index::Reply
-    ensures { result ≡ judge_reply text.now }
+// The number of the nodes of a text of the profile that keeps the limits. Size for a text that is too long; then whichever comes first: Markup at the first byte at
+// which no text of the profile continues, or Tree at the first node that is too deep or one too many.
+pub fn judge(text: &[u8]) -> Result<u32, Refusal>
+    ensures { reply_of result ≡ judge_reply text.now }
 {
     if LONGEST < text.len() {
-        return index::Reply {
-            refusal: index::SIZE,
-            place: 0,
-            total: 0,
-        };
+        return Err(Refusal::Size);
     }
-    let mut starts: [usize; 64] = [0; 64];
-    let mut sizes: [usize; 64] = [0; 64];
+    let mut names = [Name { start: 0, size: 0 }; 64];
     let mut at: usize = 0;
-    let mut depth: usize = 0;
-    let mut met: u32 = 0;
-    let mut solid = false;
-    let mut rooted = false;
+    let mut s = State {
+        depth: 0,
+        met: 0,
+        solid: false,
+        rooted: false,
+    };
     loop {
-        let closed = turns::bare_close(text, at, depth, &starts, &sizes);
-        if at < closed {
-            at = closed;
-            depth -= 1;
-            solid = false;
+        if let Some(end) = turns::bare_close(text, at, s.depth, &names) {
+            at = end;
+            s = s.behind(s.depth - 1);
             continue;
         }
         let p = markup::piece_at(text, at);
-        let next = p.end;
-        let s = turns::State {
-            depth,
-            met,
-            solid,
-            rooted,
-        };
-        let t = turns::take_turn(text, at, p, s, &mut starts, &mut sizes);
-        if t.halted {
-            return index::Reply {
-                refusal: t.refusal,
-                place: t.place,
-                total: t.total,
-            };
+        match turns::take_turn(text, at, p, s, &mut names) {
+            Continue(next) => s = next,
+            Break(ending) => return ending,
         }
-        at = next;
-        depth = t.depth;
-        met = t.met;
-        solid = t.solid;
-        rooted = t.rooted;
+        at = p.end;
     }
 }

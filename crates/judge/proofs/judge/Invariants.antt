@@ -4,8 +4,8 @@ use lib.ListN.{length}
 use Rattle.judge.proofs.Walk.{Walk}
 use Rattle.judge.proofs.judge.Given as goal
 
-abbrev pub invariant-loop-at : goal.invariant-loop-at
-invariant-loop-at l = Walk l.text l.starts l.sizes l.at l.depth l.met l.solid l.rooted
+abbrev pub invariant-loop-end : goal.invariant-loop-end
+invariant-loop-end l = Walk l.text l.names l.at l.s
 
-abbrev pub decreases-loop-at : goal.decreases-loop-at
-decreases-loop-at l = length l.text - l.at
+abbrev pub decreases-loop-end : goal.decreases-loop-end
+decreases-loop-end l = length l.text - l.at

@@ -1,20 +1,22 @@
 -- `judge::turns::space_turn` meets its contract.
-use borrow.Author.Tests.{not-false, not-true}
-use mathlib.Core.Path.{◌∙◌}
-use Rattle.judge.proofs.Numbers.{space-broken, space-solid, space-on}
+use mathlib.Core.Path.{ap, ◌∙◌}
+use mathlib.Core.Bool.{◌&&◌}
+use lib.Dec.{eqb}
+use borrow.Author.Tests.{ne_eqb}
+use Rattle.seq.proofs.Laws.Bools.{and_false-right}
+use Rattle.judge.proofs.Numbers.{space-broken, space-on}
 use Rattle.judge.proofs.turns.space_turn.Goals as goal
+use Rattle.judge.proofs.turns.space_turn.Goals.{else-p-via-then-p+else-p-2, else-p-via-else-p}
 
-pub broken-requires : goal.broken-requires
-broken-requires c = c.requires
-
-pub returns-then-not-p : goal.returns-then-not-p
-returns-then-not-p c = c.broken.ensures ∙ space-broken _ _ (not-true _ c.if-not-p.true)
-
-pub broken-requires-then-p : goal.broken-requires-then-p
-broken-requires-then-p c = c.requires
-
-pub returns-then-p : goal.returns-then-p
-returns-then-p c = c.broken-then-p.ensures ∙ space-solid _ _ c.if-p.true
+pub returns-then-p-2 : goal.returns-then-p-2
+returns-then-p-2 c = space-on _ _ c.if-p.true c.if-p-2.true
 
 pub returns : goal.returns
-returns c = c.goes.ensures ∙ space-on _ _ (not-false _ c.if-not-p.false) c.if-p.false
+returns c =
+    let p = c.args.p in
+    c.broken.ensures
+    ∙ space-broken _ _
+    (elim c.else-p.branch [
+      | else-p-via-then-p+else-p-2 w ↦ and_false-right p.whole (eqb p.middle p.end) (ne_eqb p.middle p.end w.if-p-2.false)
+      | else-p-via-else-p w ↦ ap (λ b. b && eqb p.middle p.end) w.if-p.false
+    ])
