@@ -85,7 +85,7 @@ pub fn plan(text: &[u8], q: &Query, slots: &mut [u32], lent: Sizes) -> Planned
             total: 0,
         };
     }
-    let r = judge::judge(text);
+    let r = index::Reply::from(judge::judge(text));
     if r.refusal != index::ACCEPTED {
         return Planned { reply: r, total: 0 };
     }

@@ -12,10 +12,16 @@ use lib.ListN.{length, get_or, set, length-set}
 use borrow.Author.Tests.{eq-eqb, ne_eqb, eqb-true}
 use Rattle.seq.proofs.Laws.Bools.{cond-true, cond-false}
 use Rattle.profile.specs.Reader.{top}
-use Rattle.profile.specs.Pieces.{DATA, COMMENT, START, CLOSE}
+use Rattle.markup.specs.declared.Kind.{Kind}
+use Rattle.markup.specs.declared.Kind.TheVariants.{End, Data, Comment, Start, Empty, Close, Nothing}
 use Rattle.markup.specs.declared.Piece.{Piece}
+use Rattle.reader.specs.declared.build.Builder.{Builder}
 use Rattle.reader.specs.declared.build.Held.{Held}
-use Rattle.reader.specs.Inner.{Rows, Even, put_node, end_node, State, Store, path_in, blank, first_in, last_in, solid_in, above, add_node, NodePre, Room, flushed_met, flushed_rows, flushed_store, longer, data_state, data_store, node_store, close_store, tag_store, turn_store, TagPre}
+use Rattle.reader.specs.Inner.{Rows, Even, put_node, end_node, State, Store, SameRows, path_in, blank, first_in, last_in, solid_in, above, add_node, NodePre, Room, flushed_met, flushed_rows, flushed_store, longer, data_state, data_store, node_store, close_store, tag_of, tag_store, turn_of, turn_store, TagPre}
+
+-- ---- the rows that are borrowed
+pub rows_still : {a b c : Builder} → SameRows a b → SameRows b c → SameRows a c
+rows_still s t = record { parents = t.parents ∙ s.parents; marks = t.marks ∙ s.marks; firsts = t.firsts ∙ s.firsts; lasts = t.lasts ∙ s.lasts }
 
 -- ---- the innermost open element
 pub top-none : (O : List ℕ) (d : ℕ) → d ≡ 0 → 0 ≡ top (path_in O d)
@@ -126,36 +132,31 @@ module _ (at : ℕ) (p : Piece) where
 -- ---- tags
 module _ (S : Store) where
   module _ (at : ℕ) (p : Piece) where
-    pub tag-close : p.kind ≡ CLOSE → close_store p S ≡ tag_store at p S
-    unfolding tag_store
-    tag-close k = rw (eq-eqb p.kind CLOSE k)
-
-    tag-node : (p.kind ≡ CLOSE → ⊥) → node_store at p S ≡ tag_store at p S
-    unfolding tag_store
-    tag-node k = rw (ne_eqb p.kind CLOSE k)
+    pub tag-close : p.kind ≡ Close → close_store p S ≡ tag_store at p S
+    unfolding tag_of
+    tag-close k = rw k
 
     -- A start tag opens its element, an empty-element tag does not.
-    abbrev noded : ℕ → List ℕ → Store
-    noded d O =
-        record {
-          state = blank d (flushed_met S.state + 1);
-          opens = O;
-          rows = put_node (flushed_met S.state) (above S) 1 at (p.end - 1) (flushed_rows S.state (above S) S.rows);
-        }
+    pub tag-start : p.kind ≡ Start → node_store (S.state.depth + 1) (set S.opens S.state.depth (flushed_met S.state)) at p S ≡ tag_store at p S
+    unfolding tag_of
+    tag-start k = rw k
 
-    pub tag-start : (p.kind ≡ CLOSE → ⊥) → p.kind ≡ START → noded (S.state.depth + 1) (set S.opens S.state.depth (flushed_met S.state)) ≡ tag_store at p S
-    tag-start k s =
-        subst (λ b. noded (cond b (S.state.depth + 1) S.state.depth) (cond b (set S.opens S.state.depth (flushed_met S.state)) S.opens) ≡ tag_store at p S)
-        (eq-eqb p.kind START s) (tag-node k)
-
-    pub tag-empty : (p.kind ≡ CLOSE → ⊥) → (p.kind ≡ START → ⊥) → noded S.state.depth S.opens ≡ tag_store at p S
-    tag-empty k s =
-        subst (λ b. noded (cond b (S.state.depth + 1) S.state.depth) (cond b (set S.opens S.state.depth (flushed_met S.state)) S.opens) ≡ tag_store at p S)
-        (ne_eqb p.kind START s) (tag-node k)
+    pub tag-empty : (p.kind ≡ Close → ⊥) → (p.kind ≡ Start → ⊥) → node_store S.state.depth S.opens at p S ≡ tag_store at p S
+    unfolding tag_of
+    tag-empty c s = by_kind p.kind c s
+      where
+        by_kind : (k : Kind) → (k ≡ Close → ⊥) → (k ≡ Start → ⊥) → node_store S.state.depth S.opens at p S ≡ tag_of k at p S
+        by_kind End c s = refl
+        by_kind Data c s = refl
+        by_kind Comment c s = refl
+        by_kind Start c s = absurd (s refl)
+        by_kind Empty c s = refl
+        by_kind Close c s = absurd (c refl)
+        by_kind Nothing c s = refl
 
     -- The steps of `tag`: the data is written, F; then the element's last place, or its node, G, which is open then or not.
     module _ (F : Store) (e : F ≡ flushed_store S) where
-      pub node-asks : TagPre at p S → (p.kind ≡ CLOSE → ⊥) → NodePre at (p.end - 1) F
+      pub node-asks : TagPre at p S → (p.kind ≡ Close → ⊥) → NodePre at (p.end - 1) F
       node-asks pre k = subst (NodePre at (p.end - 1)) (sym e)
           (record {
             even = flushed-even S.state (above S) S.rows pre.ready.even;
@@ -166,7 +167,7 @@ module _ (S : Store) where
             last = omega (arith, pre.moves, pre.fits);
           })
 
-      pub close-node : TagPre at p S → p.kind ≡ CLOSE → above F < length F.rows.lasts
+      pub close-node : TagPre at p S → p.kind ≡ Close → above F < length F.rows.lasts
       close-node pre k = subst (λ F. above F < length F.rows.lasts) (sym e)
           (omega (arith, pre.closes k, flushed-long S.state (above S) S.rows, (flushed-even S.state (above S) S.rows pre.ready.even).lasts))
 
@@ -174,45 +175,51 @@ module _ (S : Store) where
       closing v F =
           record { state = record { depth = F.state.depth - 1; met = F.state.met; held = F.state.held }; opens = F.opens; rows = end_node v (p.end - 1) F.rows }
 
-      pub tag-closed : (v : ℕ) → v ≡ above F → p.kind ≡ CLOSE → closing v F ≡ tag_store at p S
+      pub tag-closed : (v : ℕ) → v ≡ above F → p.kind ≡ Close → closing v F ≡ tag_store at p S
       tag-closed v q k = ap (λ v. closing v F) q ∙ ap (λ F. closing (above F) F) e ∙ tag-close k
 
       abbrev opening : ℕ → Store → Store
       opening v G =
           record { state = record { depth = G.state.depth + 1; met = G.state.met; held = G.state.held }; opens = set G.opens G.state.depth v; rows = G.rows }
 
-      module _ (G : Store) (g : G ≡ add_node 1 at (p.end - 1) F) (k : p.kind ≡ CLOSE → ⊥) where
-        pub tag-opened : p.kind ≡ START → opening F.state.met G ≡ tag_store at p S
-        tag-opened s = ap (opening F.state.met) g ∙ ap (λ F. opening F.state.met (add_node 1 at (p.end - 1) F)) e ∙ tag-start k s
+      module _ (G : Store) (g : G ≡ add_node 1 at (p.end - 1) F) where
+        pub tag-opened : p.kind ≡ Start → opening F.state.met G ≡ tag_store at p S
+        tag-opened s = ap (opening F.state.met) g ∙ ap (λ F. opening F.state.met (add_node 1 at (p.end - 1) F)) e ∙ tag-start s
 
-        pub tag-emptied : (p.kind ≡ START → ⊥) → G ≡ tag_store at p S
-        tag-emptied s = g ∙ ap (add_node 1 at (p.end - 1)) e ∙ tag-empty k s
+        pub tag-emptied : (p.kind ≡ Close → ⊥) → (p.kind ≡ Start → ⊥) → G ≡ tag_store at p S
+        tag-emptied k s = g ∙ ap (add_node 1 at (p.end - 1)) e ∙ tag-empty k s
 
   -- ---- one piece
   module _ (at : ℕ) (p : Piece) where
-    pub turn_data_lem : p.kind ≡ DATA → data_store at p S ≡ turn_store at p S
-    unfolding turn_store
-    turn_data_lem k = sym (cond-true (eqb p.kind DATA) (eq-eqb p.kind DATA k) _ _)
+    pub turn_data_lem : p.kind ≡ Data → data_store at p S ≡ turn_store at p S
+    unfolding turn_of
+    turn_data_lem k = rw k
 
-    pub turn-comment : p.kind ≡ COMMENT → S ≡ turn_store at p S
-    unfolding turn_store
-    turn-comment k =
-        sym
-        (cond-false (eqb p.kind DATA) (ap (λ i. eqb i DATA) k) _ _ ∙ cond-true (eqb p.kind COMMENT) (eq-eqb p.kind COMMENT k) S (tag_store at p S))
+    pub turn-comment : p.kind ≡ Comment → S ≡ turn_store at p S
+    unfolding turn_of
+    turn-comment k = rw k
 
-    pub turn-tag : (p.kind ≡ DATA → ⊥) → (p.kind ≡ COMMENT → ⊥) → tag_store at p S ≡ turn_store at p S
-    unfolding turn_store
-    turn-tag d c =
-        sym
-        (cond-false (eqb p.kind DATA) (ne_eqb p.kind DATA d) _ _ ∙
-        cond-false (eqb p.kind COMMENT) (ne_eqb p.kind COMMENT c) S (tag_store at p S))
+    pub turn-tag : (p.kind ≡ Data → ⊥) → (p.kind ≡ Comment → ⊥) → tag_store at p S ≡ turn_store at p S
+    unfolding turn_of
+    turn-tag d c = by_kind p.kind d c
+      where
+        by_kind : (k : Kind) → (k ≡ Data → ⊥) → (k ≡ Comment → ⊥) → tag_store at p S ≡ turn_of k at p S
+        by_kind End d c = refl
+        by_kind Data d c = absurd (d refl)
+        by_kind Comment d c = absurd (c refl)
+        by_kind Start d c = refl
+        by_kind Empty d c = refl
+        by_kind Close d c = refl
+        by_kind Nothing d c = refl
 
   -- Only data has a use for the middle of a piece.
-  pub turn-middle : (at k : ℕ) (b : Bool) (m m' e : ℕ) → (k ≡ DATA → m ≡ m') →
+  pub turn-middle : (at : ℕ) (k : Kind) (b : Bool) (m m' e : ℕ) → (k ≡ Data → m ≡ m') →
       turn_store at (record { kind = k; whole = b; middle = m; end = e }) S ≡ turn_store at (record { kind = k; whole = b; middle = m'; end = e }) S
-  turn-middle at k b m m' e h = by_kind (eqb k DATA) refl
-    where
-      by_kind : (d : Bool) → eqb k DATA ≡ d →
-          turn_store at (record { kind = k; whole = b; middle = m; end = e }) S ≡ turn_store at (record { kind = k; whole = b; middle = m'; end = e }) S
-      by_kind true q = ap (λ i. turn_store at (record { kind = k; whole = b; middle = i; end = e }) S) (h (eqb-true k DATA q))
-      by_kind false q = unfold turn_store tag_store in rw q
+  unfolding turn_of tag_of
+  turn-middle at End b m m' e h = refl
+  turn-middle at Data b m m' e h = ap (λ i. data_store at (record { kind = Data; whole = b; middle = i; end = e }) S) (h refl)
+  turn-middle at Comment b m m' e h = refl
+  turn-middle at Start b m m' e h = refl
+  turn-middle at Empty b m m' e h = refl
+  turn-middle at Close b m m' e h = refl
+  turn-middle at Nothing b m m' e h = refl

@@ -33,7 +33,9 @@ use Rattle.profile.proofs.Turns.{close-kind, tag-kind}
 use Rattle.profile.proofs.PieceLaws.{piece_cases, piece_le}
 use Rattle.profile.proofs.Went.{Stands, Went, went, stands-start, stands_le, flushed-length, broken-whole}
 use Rattle.markup.specs.declared.Piece.{Piece}
-use Rattle.markup.specs.Pieces.{piece_from, piece_at}
+use Rattle.markup.specs.declared.Kind.TheVariants.{End, Data, Comment, Start, Empty, Close}
+use Rattle.markup.specs.Pieces.{number, kind_of, piece_from, piece_at}
+use Rattle.markup.proofs.Numbers.{of_number}
 use Rattle.skim.specs.Skim.{skim_at}
 use Rattle.skim.proofs.Laws.{Agrees, skim_whole}
 use Rattle.reader.specs.declared.build.Held.{Held}
@@ -61,6 +63,52 @@ tag-only =
     piece_cases (λ t q. q.whole ≡ true → (q.kind ≡ END → ⊥) → (q.kind ≡ DATA → ⊥) → (q.kind ≡ COMMENT → ⊥) → (q.kind ≡ CLOSE → ⊥) → IsTag q)
     (λ w e d c k. absurd (e refl)) (λ x t a w e d c k. absurd (d refl)) (λ t w e d c k. absurd (c refl)) (λ t w e d c k. absurd (k (close-kind t)))
     (λ x t h w e d c k. tag-kind (x ∷ t)) (λ t w e d c k. absurd (false≢true w))
+
+-- ---- kinds and their numbers
+module _ (n : ℕ) where
+  to-end : n ≡ END → kind_of n ≡ End
+  unfolding kind_of
+  to-end e = ap kind_of e
+
+  to-data : n ≡ DATA → kind_of n ≡ Data
+  unfolding kind_of
+  to-data e = ap kind_of e
+
+  to-comment : n ≡ COMMENT → kind_of n ≡ Comment
+  unfolding kind_of
+  to-comment e = ap kind_of e
+
+  to-start : n ≡ START → kind_of n ≡ Start
+  unfolding kind_of
+  to-start e = ap kind_of e
+
+  to-empty : n ≡ EMPTY → kind_of n ≡ Empty
+  unfolding kind_of
+  to-empty e = ap kind_of e
+
+  to-close : n ≡ CLOSE → kind_of n ≡ Close
+  unfolding kind_of
+  to-close e = ap kind_of e
+
+  from-end : kind_of n ≡ End → n ≡ END
+  unfolding number
+  from-end e = of_number n End (λ z. cc) e
+
+  from-data : kind_of n ≡ Data → n ≡ DATA
+  unfolding number
+  from-data e = of_number n Data (λ z. cc) e
+
+  from-comment : kind_of n ≡ Comment → n ≡ COMMENT
+  unfolding number
+  from-comment e = of_number n Comment (λ z. cc) e
+
+  from-start : kind_of n ≡ Start → n ≡ START
+  unfolding number
+  from-start e = of_number n Start (λ z. cc) e
+
+  from-close : kind_of n ≡ Close → n ≡ CLOSE
+  unfolding number
+  from-close e = of_number n Close (λ z. cc) e
 
 -- ---- the data of a piece
 module _ (at : ℕ) (p : Piece) (s : State) (k : ℕ) where
@@ -272,7 +320,7 @@ module _ (T : List ℕ) (R : Rows) (pre : BuildPre T R) where
           }
 
       -- whatever its middle
-      pub here-pre : (m : ℕ) → TurnPre at (record { kind = q.kind; whole = q.whole; middle = m; end = at + q.size }) S
+      pub here-pre : (m : ℕ) → TurnPre at (record { kind = kind_of q.kind; whole = q.whole; middle = m; end = at + q.size }) S
       here-pre m =
           record {
             moves = omega (arith, here-moves);
@@ -281,11 +329,11 @@ module _ (T : List ℕ) (R : Rows) (pre : BuildPre T R) where
                   ready = ready;
                   moves = omega (arith, here-moves);
                   fits = omega (arith, here-within, pre.short);
-                  inside = close-some;
+                  inside = λ k. close-some (from-close _ k);
                   closes = λ k.
-                      omega (arith, top_below S.opens S.state.depth S.state.met (close-some k) w.mirror.below, met-before, met-fits, here-long.parents);
-                  node = λ k. omega (arith, tag_fits (tag-only t gone.whole-piece more d c k), mirror-met T n R sized w.memory S w.mirror, here-long.parents);
-                  opens = start-room;
+                      omega (arith, top_below S.opens S.state.depth S.state.met (close-some (from-close _ k)) w.mirror.below, met-before, met-fits, here-long.parents);
+                  node = λ k. omega (arith, tag_fits (tag-only t gone.whole-piece more (λ e. d (to-data _ e)) (λ e. c (to-comment _ e)) (λ e. k (to-close _ e))), mirror-met T n R sized w.memory S w.mirror, here-long.parents);
+                  opens = λ k. start-room (from-start _ k);
                 };
           }
 
@@ -306,7 +354,7 @@ module _ (T : List ℕ) (R : Rows) (pre : BuildPre T R) where
 
       turned_data : q.kind ≡ DATA → Turned (turn_store at p S)
       turned_data k =
-          subst Turned (turn_data_lem S at p k)
+          subst Turned (turn_data_lem S at p (to-data _ k))
           (record {
             mirror = mirror_data T n R sized w.memory S w.mirror at t q k;
             depth = subst (λ d. Follows 64 65536 n d (at + q.size) (drop q.size t)) (sym (data_depth at p S.state 0)) (follows_data 64 65536 n S.state.depth at t w.depth k);
@@ -325,7 +373,7 @@ module _ (T : List ℕ) (R : Rows) (pre : BuildPre T R) where
 
       turned-close : q.kind ≡ CLOSE → Turned (tag_store at p S)
       turned-close k =
-          subst Turned (tag-close S at p k)
+          subst Turned (tag-close S at p (to-close _ k))
           (record {
             mirror =
                 as_noted _ _ (noted-close at t q w.memory k)
@@ -339,7 +387,7 @@ module _ (T : List ℕ) (R : Rows) (pre : BuildPre T R) where
 
       turned-start : q.kind ≡ START → Turned (tag_store at p S)
       turned-start k =
-          subst Turned (tag-start S at p (λ e. omega arith) k)
+          subst Turned (tag-start S at p (to-start _ k))
           (record {
             mirror =
                 as_noted _ _ (noted-start at t q w.memory k)
@@ -357,7 +405,7 @@ module _ (T : List ℕ) (R : Rows) (pre : BuildPre T R) where
 
       turned-empty : q.kind ≡ EMPTY → Turned (tag_store at p S)
       turned-empty k =
-          subst Turned (tag-empty S at p (λ e. omega arith) (λ e. omega arith))
+          subst Turned (let f = to-empty _ k in tag-empty S at p (λ e. cc) (λ e. cc))
           (record {
             mirror =
                 as_noted _ _ (noted-empty at t q w.memory k)
@@ -378,7 +426,7 @@ module _ (T : List ℕ) (R : Rows) (pre : BuildPre T R) where
 
       turned-comment : q.kind ≡ COMMENT → Turned (turn_store at p S)
       turned-comment k =
-          subst Turned (turn-comment S at p k)
+          subst Turned (turn-comment S at p (to-comment _ k))
           (record {
             mirror = mirror-comment T n R sized w.memory S w.mirror at t q k;
             depth = follows_rest 64 65536 n S.state.depth at t w.depth more (λ e. omega arith) (λ e. omega arith) (λ e. omega arith) (λ e. omega arith);
@@ -402,7 +450,7 @@ module _ (T : List ℕ) (R : Rows) (pre : BuildPre T R) where
           by_kind true b ea eb = turned_data (eqb-true q.kind DATA ea)
           by_kind false true ea eb = turned-comment (eqb-true q.kind COMMENT eb)
           by_kind false false ea eb =
-              subst Turned (turn-tag S at p (eqb-false q.kind DATA ea) (eqb-false q.kind COMMENT eb))
+              subst Turned (turn-tag S at p (λ e. eqb-false q.kind DATA ea (from-data _ e)) (λ e. eqb-false q.kind COMMENT eb (from-comment _ e)))
               (turned-tag (eqb-false q.kind DATA ea) (eqb-false q.kind COMMENT eb))
 
       pub here-step : Here T R (at + q.size) (turn_store at p S)
@@ -435,25 +483,25 @@ module _ (T : List ℕ) (R : Rows) (pre : BuildPre T R) where
       agrees : Agrees p (piece_from at q)
       agrees = subst (λ p. Agrees p (piece_from at q)) (sym e) (unfold piece_at in skim_whole T at here-whole)
 
-      kind-is : p.kind ≡ q.kind
+      kind-is : p.kind ≡ kind_of q.kind
       kind-is = agrees.kind
 
       end_is : p.end ≡ at + q.size
       end_is = agrees.end
 
       -- It is the piece of the profile but for its middle.
-      piece_is : p ≡ record { kind = q.kind; whole = q.whole; middle = p.middle; end = at + q.size }
-      piece_is = ap₂ (λ k b. record { kind = k; whole = b; middle = p.middle; end = p.end }) kind-is agrees.whole ∙ ap (λ i. record { kind = q.kind; whole = q.whole; middle = p.middle; end = i }) end_is
+      piece_is : p ≡ record { kind = kind_of q.kind; whole = q.whole; middle = p.middle; end = at + q.size }
+      piece_is = ap₂ (λ k b. record { kind = k; whole = b; middle = p.middle; end = p.end }) kind-is agrees.whole ∙ ap (λ i. record { kind = kind_of q.kind; whole = q.whole; middle = p.middle; end = i }) end_is
 
       turn_is : turn_store at p S ≡ turn_store at (piece_from at q) S
-      turn_is = ap (λ p. turn_store at p S) piece_is ∙ turn-middle S at q.kind q.whole p.middle (at + q.middle) (at + q.size) agrees.middle
+      turn_is = ap (λ p. turn_store at p S) piece_is ∙ turn-middle S at (kind_of q.kind) q.whole p.middle (at + q.middle) (at + q.size) agrees.middle
 
-      pub turn-ends : p.kind ≡ END → Built T S.rows
-      turn-ends k = here_end (sym kind-is ∙ k)
+      pub turn-ends : p.kind ≡ End → Built T S.rows
+      turn-ends k = here_end (from-end _ (sym kind-is ∙ k))
 
-      module _ (more : p.kind ≡ END → ⊥) where
+      module _ (more : p.kind ≡ End → ⊥) where
         goes_on_lem : q.kind ≡ END → ⊥
-        goes_on_lem k = more (kind-is ∙ k)
+        goes_on_lem k = more (kind-is ∙ to-end _ k)
 
         pub turn-pre : TurnPre at p S
         turn-pre = subst (λ p. TurnPre at p S) (sym piece_is) (here-pre goes_on_lem p.middle)

@@ -8,7 +8,7 @@
 --   first_in, last_in, solid_in   == of the data held: its first and its last place, and whether it makes a node; 0 and no where there is none
 --   add_node          == the store with one node more, a child of the innermost open element
 --   flushed_met, flushed_rows, flushed_store   == the nodes written, the rows, and the store, with the node of the data held, if it makes one
---   data_state, node_store, close_store, tag_store, turn_store   == what one piece does
+--   data_state, node_store, close_store   == what data, the tag of an element's beginning and an end tag do; tag_store, turn_store: what a tag and a piece do, by kind
 --   mark a            == 1 for an element, 0 for data
 --   RunPre            == such a text, and a store in which nothing is done yet
 --   BuildPre, Built   == what `build` asks: an accepted text, with rows as long as it has nodes; and what it leaves in the rows: its tree
@@ -18,7 +18,8 @@ use Rattle.seq.specs.Memory.{zeroed}
 use Rattle.profile.specs.Tree.{Node}
 use Rattle.profile.specs.Reader.{top, tree_of}
 use Rattle.profile.specs.Check.{whole, reply_to}
-use Rattle.profile.specs.Pieces.{DATA, COMMENT, START, CLOSE}
+use Rattle.markup.specs.declared.Kind.{Kind}
+use Rattle.markup.specs.declared.Kind.TheVariants.{Data, Comment, Start, Close}
 use Rattle.markup.specs.declared.Piece.{Piece}
 use Rattle.names.specs.Names.{names}
 use Rattle.reader.specs.Read.{Lent, parents_of, tags_in, firsts_of, lasts_of}
@@ -139,18 +140,12 @@ data_state at p s = cond (eqb s.depth 0) s (record { depth = s.depth; met = s.me
 abbrev pub data_store : ℕ → Piece → Store → Store
 data_store at p S = record { state = data_state at p S.state; opens = S.opens; rows = S.rows }
 
-abbrev pub opens_after : Piece → Store → List ℕ
-opens_after p S = cond (eqb p.kind START) (set S.opens S.state.depth (flushed_met S.state)) S.opens
-
-abbrev pub state_after : Piece → State → State
-state_after p s = blank (cond (eqb p.kind START) (s.depth + 1) s.depth) (flushed_met s + 1)
-
--- A start tag or an empty-element tag.
-abbrev pub node_store : ℕ → Piece → Store → Store
-node_store at p S =
+-- A start tag or an empty-element tag: then d elements are open, those of O.
+abbrev pub node_store : ℕ → List ℕ → ℕ → Piece → Store → Store
+node_store d O at p S =
     record {
-      state = state_after p S.state;
-      opens = opens_after p S;
+      state = blank d (flushed_met S.state + 1);
+      opens = O;
       rows = put_node (flushed_met S.state) (above S) 1 at (p.end - 1) (flushed_rows S.state (above S) S.rows);
     }
 
@@ -163,13 +158,21 @@ close_store p S =
       rows = end_node (above S) (p.end - 1) (flushed_rows S.state (above S) S.rows);
     }
 
-unfoldable pub tag_store : ℕ → Piece → Store → Store
-tag_store at p S = cond (eqb p.kind CLOSE) (close_store p S) (node_store at p S)
+unfoldable pub tag_of : Kind → ℕ → Piece → Store → Store
+tag_of Close at p S = close_store p S
+tag_of Start at p S = node_store (S.state.depth + 1) (set S.opens S.state.depth (flushed_met S.state)) at p S
+tag_of k at p S = node_store S.state.depth S.opens at p S
 
-unfoldable pub turn_store : ℕ → Piece → Store → Store
-turn_store at p S =
-    cond (eqb p.kind DATA) (data_store at p S)
-    (cond (eqb p.kind COMMENT) S (tag_store at p S))
+abbrev pub tag_store : ℕ → Piece → Store → Store
+tag_store at p S = tag_of p.kind at p S
+
+unfoldable pub turn_of : Kind → ℕ → Piece → Store → Store
+turn_of Data at p S = data_store at p S
+turn_of Comment at p S = S
+turn_of k at p S = tag_store at p S
+
+abbrev pub turn_store : ℕ → Piece → Store → Store
+turn_store at p S = turn_of p.kind at p S
 
 -- ---- what it needs
 -- The rows have room for the data held, and the numbers of the open elements fit.
@@ -186,15 +189,15 @@ pub record TagPre (at : ℕ) (p : Piece) (S : Store) : Type 0 where
   pub moves : at < p.end
   pub fits : p.end ≤ longest
   -- an end tag's element is open
-  pub inside : p.kind ≡ CLOSE → 1 ≤ S.state.depth
-  pub closes : p.kind ≡ CLOSE → above S < length S.rows.parents
+  pub inside : p.kind ≡ Close → 1 ≤ S.state.depth
+  pub closes : p.kind ≡ Close → above S < length S.rows.parents
   -- another tag has room for its node, and for its element
-  pub node : (p.kind ≡ CLOSE → ⊥) → flushed_met S.state < length S.rows.parents
-  pub opens : p.kind ≡ START → S.state.depth < length S.opens
+  pub node : (p.kind ≡ Close → ⊥) → flushed_met S.state < length S.rows.parents
+  pub opens : p.kind ≡ Start → S.state.depth < length S.opens
 
 pub record TurnPre (at : ℕ) (p : Piece) (S : Store) : Type 0 where
   pub moves : at < p.end
-  pub tag : (p.kind ≡ DATA → ⊥) → (p.kind ≡ COMMENT → ⊥) → TagPre at p S
+  pub tag : (p.kind ≡ Data → ⊥) → (p.kind ≡ Comment → ⊥) → TagPre at p S
 
 -- ---- the tree in rows
 abbrev pub mark_of : List ℕ → ℕ

@@ -5,6 +5,8 @@ ghost use Rattle.std.specs.Prelude.{◌≡◌, ◌<◌};
 ghost use Rattle.profile.specs.Reader.{top};
 ghost use Rattle.reader.specs.Inner.{rows, store_of, path_in, TopPre, NodePre, add_node, Room, flushed_store, data_store, TagPre, tag_store, TurnPre, turn_store, SameRows, rows_of, RunPre, BuildPre, Built};
 
+use markup::{Kind, Piece};
+
 // The data since the last tag: the places of its first and its last byte, and whether it makes a node.
 #[derive(Clone, Copy)]
 struct Held {
@@ -66,7 +68,7 @@ impl Builder<'_> {
     }
 
     // Data. Outside the root it is white space, and is not held.
-    fn data(&mut self, at: usize, p: markup::Piece)
+    fn data(&mut self, at: usize, p: Piece)
         requires { «at» < p.end }
         ensures stored { store_of self.new ≡ data_store «at» p (store_of self.old) }
         ensures same { SameRows self.old self.new }
@@ -92,41 +94,40 @@ impl Builder<'_> {
 
     // A tag: the node of the data before it. An end tag then is the last place of the element that was opened last; another tag has a node of its own, and
     // the element of a start tag is open then.
-    fn tag(&mut self, at: usize, p: markup::Piece)
+    fn tag(&mut self, at: usize, p: Piece)
         requires { TagPre «at» p (store_of self.old) }
         ensures stored { store_of self.new ≡ tag_store «at» p (store_of self.old) }
         ensures same { SameRows self.old self.new }
     {
         self.flush();
         let last = p.end - 1;
-        if p.kind == markup::CLOSE {
-            let top = self.top();
-            self.lasts[top] = last as u32;
-            self.depth -= 1;
-            return;
-        }
-        let v = self.met;
-        self.put(1, at, last);
-        if p.kind == markup::START {
-            self.opens[self.depth] = v;
-            self.depth += 1;
+        match p.kind {
+            Kind::Close => {
+                let top = self.top();
+                self.lasts[top] = last as u32;
+                self.depth -= 1;
+            }
+            Kind::Start => {
+                let v = self.met;
+                self.put(1, at, last);
+                self.opens[self.depth] = v;
+                self.depth += 1;
+            }
+            _ => self.put(1, at, last),
         }
     }
 
     // What one piece does. A comment does nothing.
-    fn turn(&mut self, at: usize, p: markup::Piece)
+    fn turn(&mut self, at: usize, p: Piece)
         requires { TurnPre «at» p (store_of self.old) }
         ensures stored { store_of self.new ≡ turn_store «at» p (store_of self.old) }
         ensures same { SameRows self.old self.new }
     {
-        if p.kind == markup::DATA {
-            self.data(at, p);
-            return;
+        match p.kind {
+            Kind::Data => self.data(at, p),
+            Kind::Comment => {}
+            _ => self.tag(at, p),
         }
-        if p.kind == markup::COMMENT {
-            return;
-        }
-        self.tag(at, p);
     }
 
     // Goes over the pieces of a text that is accepted, from its beginning to its end.
@@ -138,10 +139,10 @@ impl Builder<'_> {
         let mut at: usize = 0;
         loop {
             let p = skim::skim_at(text, at);
-            if p.kind == markup::END {
-                return;
+            match p.kind {
+                Kind::End => return,
+                _ => self.turn(at, p),
             }
-            self.turn(at, p);
             at = p.end;
         }
     }

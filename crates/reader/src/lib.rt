@@ -5,8 +5,11 @@
 mod build;
 
 ghost use Rattle.std.specs.Prelude.{◌≡◌};
+ghost use Rattle.index.specs.Replies.{reply_of};
 ghost use Rattle.reader.specs.Read.{fits, lent, Reads};
 ghost use Rattle.reader.specs.Inner.{FillPre, Filled};
+
+use index::{Refusal, Reply};
 
 // Whether n nodes fit four rows of these lengths, and three times as many entries the work.
 #[tactic(auto, unfolding(crate::specs::Read::fits), using(crate::proofs::Reading::third))]
@@ -40,28 +43,22 @@ fn fill(
     names::number(text, &*firsts, &mut *tags, &mut *work);
 }
 
-// Reads a text of the profile: parents, tags, and each node's first and last place, over the fronts of the rows. The total is the number of nodes, n.
-// SIZE for a text of more than 16,777,216 bytes; then whichever comes first: MARKUP at the first byte at which no text of the profile continues, or TREE at the
-// first node of level 65 or numbered 65,536; last ROOM where a row is shorter than n, or work than 3 * n. A refusal leaves everything as it was.
-// Accepted, the first 3 * n entries of work are 0, and whatever is behind the n nodes stays.
+// Reads a text, as `read` does: the number of its nodes, or why it is refused.
 #[tactic(auto, unfolding(crate::specs::Read::fits))]
-pub fn read(
+fn try_read(
     text: &[u8],
     parents: &mut [u32],
     tags: &mut [u32],
     firsts: &mut [u32],
     lasts: &mut [u32],
     work: &mut [u32],
-) -> index::Reply
+) -> Result<u32, Refusal>
     ensures { Reads text.now
-        (lent parents.old tags.old firsts.old lasts.old work.old) result
+        (lent parents.old tags.old firsts.old lasts.old work.old) (reply_of result)
         (lent parents.new tags.new firsts.new lasts.new work.new) }
 {
-    let r = judge::judge(text);
-    if r.refusal != index::ACCEPTED {
-        return r;
-    }
-    let n = r.total as usize;
+    let total = judge::judge(text)?;
+    let n = total as usize;
     if !has_room(
         n,
         parents.len(),
@@ -70,11 +67,7 @@ pub fn read(
         lasts.len(),
         work.len(),
     ) {
-        return index::Reply {
-            refusal: index::ROOM,
-            place: 0,
-            total: r.total,
-        };
+        return Err(Refusal::Room(total));
     }
     fill(
         text,
@@ -84,5 +77,24 @@ pub fn read(
         &mut lasts[..n],
         work,
     );
-    r
+    Ok(total)
+}
+
+// Reads a text of the profile: parents, tags, and each node's first and last place, over the fronts of the rows. The total is the number of nodes, n.
+// SIZE for a text of more than 16,777,216 bytes; then whichever comes first: MARKUP at the first byte at which no text of the profile continues, or TREE at the
+// first node of level 65 or numbered 65,536; last ROOM where a row is shorter than n, or work than 3 * n. A refusal leaves everything as it was.
+// Accepted, the first 3 * n entries of work are 0, and whatever is behind the n nodes stays.
+pub fn read(
+    text: &[u8],
+    parents: &mut [u32],
+    tags: &mut [u32],
+    firsts: &mut [u32],
+    lasts: &mut [u32],
+    work: &mut [u32],
+) -> Reply
+    ensures { Reads text.now
+        (lent parents.old tags.old firsts.old lasts.old work.old) result
+        (lent parents.new tags.new firsts.new lasts.new work.new) }
+{
+    try_read(text, parents, tags, firsts, lasts, work).into()
 }
