@@ -10,6 +10,8 @@
 --   Index t fs n v seen ts w == the rows w hold a tree of the names seen at the nodes before v; its leaves have a number in ts
 --   Given t fs seen ts y     == the node y has the number of its name in ts
 --   State t fs ms w₀ v ts w c == the nodes before v are numbered: ts and w are what the marks ms and the work w₀ have become, and c names were seen
+--   Ready b w v, TurnedHere b w b' w' v, Fresh b w, AllHere b w b' w' == the same of a numberer b and its tree w: before and after the turn at v, before the first, and after all
+--   SameRows w w', SameLent b b' == what the tree and the numberer borrow is the same
 -- Letters: t text, fs places of the nodes, o p places; x y bytes or names; l link, k its number; n nodes, u v nodes, q place of a link, d bit; seen names seen. Assumes nothing.
 use Rattle.std.specs.Prelude.{ℕ, suc, ◌+◌, ◌*◌, ◌/◌, ◌%◌, ◌≤◌, ◌<◌, ◌≡◌, List, ◌++◌, Bool, true, cond, eqb, length, get_or, set, take, drop, Option, None, Some}
 use Rattle.seq.specs.Lists.{EachBelow}
