@@ -18,7 +18,10 @@ use Rattle.seq.specs.Below.{tabulate}
 use Rattle.seq.specs.Memory.{over}
 use Rattle.seq.proofs.Laws.Gather.{length-tabulate, get_d_tabulate, listed_le}
 use Rattle.index.specs.declared.Reply.{Reply}
-use Rattle.index.specs.Replies.{accepted, totalled, kept_or}
+use Rattle.std.proofs.Common.{Result, Ok}
+use Rattle.index.specs.declared.replies.Refusal.{Refusal}
+use Rattle.index.specs.Replies.{accepted, totalled, kept_or, reply_of}
+use Rattle.index.proofs.Laws.Replies.{reply-accepted}
 use Rattle.listing.specs.Listing.{flagged, flagged_rows, flagged_reply, flagged_out, Listed}
 use Rattle.listing.proofs.Laws.{rows-length}
 use Rattle.build.specs.Inner.{row_of, flag_lists, ListsPre, ListsWritten}
@@ -96,6 +99,10 @@ module _ (c : List ℕ) (n : ℕ) (e₀ o₀ e o : List ℕ) (a j : ℕ) (pre : 
 
     pub total-is : x.total ≡ length (flagged_rows fl)
     total-is = ap (λ x. x.total) reply-is
+
+    -- So it is not refused.
+    pub listed-ok : (y : Result ℕ Refusal) → x ≡ reply_of y → y ≡ Ok (length (flagged_rows fl))
+    listed-ok y e = reply-accepted y (ap (λ (z : Reply). z.refusal) (sym e ∙ reply-is)) ∙ ap Ok (ap (λ (z : Reply). z.total) (sym e ∙ reply-is))
 
     out-is : out ≡ over (flagged_rows fl) part
     unfolding flagged_out kept_or

@@ -8,8 +8,9 @@ pub(crate) fn write_lists(flags: &[u32], n: usize, ends: &mut [u32], occurrences
 {
     let mut at = 0;
     for j in 0..ends.len() {
-        let r = listing::list_flagged(&flags[j * n..(j + 1) * n], &mut occurrences[at..]);
-        at += r.total as usize;
+        // there is room, since as many entries as the lists have were lent
+        let m = listing::list_flagged(&flags[j * n..(j + 1) * n], &mut occurrences[at..]).unwrap();
+        at += m as usize;
         ends[j] = at as u32;
     }
 }

@@ -7,17 +7,16 @@ use mathlib.Core.List.{List}
 use mathlib.Core.Bool.{Bool, true, false, cond, ◌||◌}
 use native.Mathlib.Omega.{arith}
 use Rattle.std.specs.Prelude.{Option, None, Some}
-use lib.Dec.{eqb, ltb}
+use lib.Dec.{ltb}
 use lib.ListN.{length, get_or, set, length-set}
-use borrow.Author.Tests.{eq-eqb, ne_eqb, eqb-true}
-use Rattle.seq.proofs.Laws.Bools.{cond-true, cond-false}
+use borrow.Author.Tests.{eq-eqb, ne_eqb}
 use Rattle.profile.specs.Reader.{top}
 use Rattle.markup.specs.declared.Kind.{Kind}
 use Rattle.markup.specs.declared.Kind.TheVariants.{End, Data, Comment, Start, Empty, Close, Nothing}
 use Rattle.markup.specs.declared.Piece.{Piece}
 use Rattle.reader.specs.declared.build.Builder.{Builder}
 use Rattle.reader.specs.declared.build.Held.{Held}
-use Rattle.reader.specs.Inner.{Rows, Even, put_node, end_node, State, Store, SameRows, path_in, blank, first_in, last_in, solid_in, above, add_node, NodePre, Room, flushed_met, flushed_rows, flushed_store, longer, data_state, data_store, node_store, close_store, tag_of, tag_store, turn_of, turn_store, TagPre}
+use Rattle.reader.specs.Inner.{Rows, Even, put_node, end_node, State, Store, SameRows, path_in, first_in, last_in, solid_in, above, add_node, NodePre, Room, flushed_met, flushed_rows, flushed_store, longer, data_state, data_store, node_store, close_store, tag_of, tag_store, turn_of, turn_store, TagPre}
 
 -- ---- the rows that are borrowed
 pub rows_still : {a b c : Builder} → SameRows a b → SameRows b c → SameRows a c

@@ -27,7 +27,8 @@ use Rattle.profile.proofs.Turns.{close-kind, tag-kind}
 use Rattle.profile.proofs.Went.{Stands, Went, went, stands-start}
 use Rattle.profile.proofs.PieceLaws.{piece_cases}
 use Rattle.markup.specs.declared.Piece as markup
-use Rattle.markup.specs.Pieces.{piece_at}
+use Rattle.markup.specs.Pieces.{number, piece_at}
+use Rattle.markup.proofs.Laws.{piece_number}
 use Rattle.pieces.specs.declared.Reader.{Reader}
 use Rattle.pieces.specs.Reading.{place_after, Gives}
 use Rattle.pieces.proofs.Laws.{place-whole}
@@ -69,11 +70,13 @@ cuts_by k j t l e = by_tests (piece_of t).whole (not (eqb (piece_of t).kind END)
 -- What `next` gives, and where it leaves the reader: the pieces from its place on are that one, if it is whole and not the end, and those from its next place on.
 pub reader_cuts : (k : ℕ) (r : Reader) (p : markup.Piece) (s : Reader) → Gives r p s →
     cuts_from (suc k) r.at (drop r.at r.text.now) ≡
-    cond (p.whole && not (eqb p.kind END)) (cut r.at (piece_of (drop r.at r.text.now)) ∷ cuts_from k s.at (drop s.at s.text.now)) []
+    cond (p.whole && not (eqb (number p.kind) END)) (cut r.at (piece_of (drop r.at r.text.now)) ∷ cuts_from k s.at (drop s.at s.text.now)) []
 unfolding piece_at
 reader_cuts k r p s g =
     cuts_by k r.at (drop r.at r.text.now) (cuts_from k s.at (drop s.at s.text.now)) behind ∙
-    ap (λ (p : markup.Piece). cond (p.whole && not (eqb p.kind END)) (cut r.at (piece_of (drop r.at r.text.now)) ∷ cuts_from k s.at (drop s.at s.text.now)) []) (sym g.piece)
+    ap (λ (e : ℕ). cond ((piece_of (drop r.at r.text.now)).whole && not (eqb e END)) (cut r.at (piece_of (drop r.at r.text.now)) ∷ cuts_from k s.at (drop s.at s.text.now)) [])
+    (sym (piece_number r.text.now r.at)) ∙
+    ap (λ (p : markup.Piece). cond (p.whole && not (eqb (number p.kind) END)) (cut r.at (piece_of (drop r.at r.text.now)) ∷ cuts_from k s.at (drop s.at s.text.now)) []) (sym g.piece)
   where
     size : ℕ
     size = (piece_of (drop r.at r.text.now)).size

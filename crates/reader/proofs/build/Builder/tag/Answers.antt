@@ -1,6 +1,5 @@
 -- `reader::build::Builder::tag` meets its contract: glue over Calls, for each kind of tag. Assumes nothing.
 use native.Mathlib.Omega.{arith}
-use Rattle.markup.specs.declared.Kind.TheVariants.{Start, Close}
 use Rattle.reader.specs.Inner.{store_of}
 use Rattle.reader.proofs.Calls.{node-asks, close-node, tag-closed, tag-opened, tag-emptied, rows_still}
 use Rattle.reader.proofs.build.Builder.tag.Goals as goal
