@@ -1,6 +1,6 @@
 -- From the index check to the search and back: the outcome of a call in each case. Assumes nothing.
 -- Letters: I index; w, o, s what is lent as work, out and own; k the number of words.
-use Prim.Native.Nat.{ℕ, ◌+◌, ◌-◌, ◌*◌, ◌≤◌, ◌<◌, ◌^◌}
+use Prim.Native.Nat.{ℕ, ◌+◌, ◌-◌, ◌*◌, ◌≤◌, ◌<◌}
 use mathlib.Core.Path.{◌≡◌, sym, ap, ap₂, ◌∙◌}
 use mathlib.Core.List.{List, ◌++◌}
 use mathlib.Core.Bool.{Bool, cond, ◌&&◌}

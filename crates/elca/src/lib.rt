@@ -67,12 +67,7 @@ fn search(
 //   Room(m)            out is shorter than the m answers, or own than m·p
 //   Ok(m)              the first m entries of out and the first m·p of own are written; later entries stay
 // Any refusal keeps out and own as lent. Under every answer but Size the first (p + 2)·n entries of work end as 0, and the rest is untouched.
-pub fn elca(
-    lent: Lent,
-    work: &mut [u32],
-    out: &mut [u32],
-    own: &mut [u32],
-) -> Result<u32, Refusal>
+pub fn elca(lent: Lent, work: &mut [u32], out: &mut [u32], own: &mut [u32]) -> Result<u32, Refusal>
     ensures { ElcaSearched (index_of lent.entry) work.old out.old own.old (reply_of result) work.new
         out.new own.new }
 {

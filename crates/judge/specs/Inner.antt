@@ -8,7 +8,7 @@
 --   Bare T at d N r      == r is nothing, or the place behind an end tag which stands at the place `at`; Closes: the bytes of such a tag
 --   Told q T r N         == the turn r, with the row then, is `profile`'s turn q
 -- Letters: T text, N row of names, s state, p piece, at a place, d how many elements are open, e what the judge ends with. Assumes nothing.
-use Rattle.std.specs.Prelude.{ℕ, zero, suc, ◌+◌, ◌-◌, ◌≤◌, ◌<◌, ◌≡◌, List, Bool, true, false, not, cond, ◌&&◌, ◌||◌, eqb, ltb, leb, length, get_or, take, drop, Result, Ok, Err, Option, Some, None}
+use Rattle.std.specs.Prelude.{ℕ, zero, suc, ◌+◌, ◌-◌, ◌≤◌, ◌<◌, ◌≡◌, List, Bool, true, false, not, cond, ◌&&◌, ◌||◌, eqb, ltb, leb, length, get_or, take, drop, Result, Err, Option, Some, None}
 use Rattle.std.specs.declared.ops.ControlFlow.{ControlFlow}
 use Rattle.std.specs.declared.ops.ControlFlow.TheVariants.{Continue, Break}
 use Rattle.index.specs.Replies.{reply_of}

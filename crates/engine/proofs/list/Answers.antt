@@ -1,5 +1,5 @@
 -- `engine::list` meets its contract: glue over Searching. Assumes nothing.
-use mathlib.Core.Path.{refl, sym, ◌∙◌}
+use mathlib.Core.Path.{refl}
 use native.Mathlib.Omega.{arith}
 use Rattle.engine.proofs.Searching.{count-pre, counted-fits, listed-all, listed-none}
 use Rattle.engine.proofs.list.Goals as goal

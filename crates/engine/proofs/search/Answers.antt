@@ -2,7 +2,6 @@
 use Rattle.std.proofs.Common.{rules}
 use native.Mathlib.Omega.{arith}
 use mathlib.Core.Path.{◌≡◌, refl, ap}
-use Rattle.index.specs.declared.Reply.{Reply}
 use Rattle.index.specs.declared.replies.Refusal.TheVariants.{Size}
 use Rattle.index.specs.Replies.{SIZE, refusal_reply}
 use Rattle.index.proofs.Laws.Replies.{refusal-refuses, refusal-size}
