@@ -1,18 +1,21 @@
 -- What is known of a query that is taken.
 --   query-plain      the test of a query is its plain definition;  query-kept: the half that the loops over its words use
---   part-is          word j's bytes as code takes them, which knows where they begin and end
--- Letters: Q query, j word, f where its bytes begin, t where they end. Assumes nothing.
-use Prim.Native.Nat.{ℕ, zero, suc, pred, ◌+◌, ◌-◌, ◌≤◌, ◌<◌}
-use mathlib.Core.Path.{◌≡◌, refl, sym, ap}
-use mathlib.Core.Logic.{◌↔◌}
+--   word-none, word-cut   word j's bytes as code takes them;  word_unique: no second outcome fits
+-- Letters: Q query, E ends, W bytes; j word, s where its bytes begin, f and t where those that there are begin and end. Assumes nothing.
+use Prim.Native.Nat.{ℕ, zero, suc, pred, min, max, ◌+◌, ◌-◌, ◌≤◌, ◌<◌}
+use mathlib.Core.Path.{◌≡◌, refl, sym, ap, ◌∙◌}
+use mathlib.Core.Logic.{◌↔◌, ⊎_elim}
 use mathlib.Core.List.{List, [], ◌∷◌}
 use mathlib.Core.Bool.{true, ◌&&◌}
 use native.Mathlib.Nat.{not-suc-le-zero}
 use native.Mathlib.Omega.{arith}
 use lib.Dec.{eqb, ltb, leb}
-use lib.ListN.{length, get_or, take, drop}
+use lib.ListN.{length, get_or, take, drop, length-drop, drop_of_length-le}
+use lib.Seq.{take_all, take-nil}
+use Rattle.std.proofs.lemmas.List.{get_or_past}
 use borrow.Author.Tests.{eq-eqb, eqb-true, lt-ltb, ltb-true, le-leb, leb-true}
 use Rattle.seq.specs.Below.{every_below}
+use Rattle.seq.proofs.Laws.Numbers.{less_or}
 use Rattle.seq.specs.Lists.{every_of}
 use Rattle.seq.proofs.Laws.Bools.{and_left, and_right, and_both}
 use Rattle.seq.proofs.Laws.Below.{every-at, every_of_lem}
@@ -89,14 +92,37 @@ module _ (Q : Query) (q : IsQuery Q) where
       top zero h = absurd (not-suc-le-zero h)
       top (suc k) h = omega arith
 
--- Word j's bytes as code takes them.
-module _ (Q : Query) (q : IsQuery Q) (j f : ℕ) (l : j < word_count Q) (b : f ≡ start Q.ends j) where
-  pub part-rises : f ≤ get_or Q.ends j 0
-  part-rises = omega (arith, q.not_empty j l)
-
-pub part-within : (Q : Query) (q : IsQuery Q) (j : ℕ) (l : j < word_count Q) → get_or Q.ends j 0 ≤ length Q.words
-part-within Q q j l = end-within Q q j l
-
-pub part-is : (Q : Query) (j f : ℕ) → f ≡ start Q.ends j → take (get_or Q.ends j 0 - f) (drop f Q.words) ≡ word_list Q.ends Q.words j
+-- Word j's bytes as code takes them, whatever the ends are: no word behind the last, and a place past the end of the bytes is their end.
+pub word-none : (E W : List ℕ) (j : ℕ) → length E ≤ j → [] ≡ word_list E W j
 unfolding word_list
-part-is Q j f b = ap (λ (x : ℕ). take (get_or Q.ends j 0 - x) (drop x Q.words)) b
+word-none E W j l =
+    let none : get_or E j 0 - start E j ≡ 0 = omega (arith, get_or_past E j 0 l) in
+    sym (ap (λ (k : ℕ). take k (drop (start E j) W)) none)
+
+pub word-cut : (E W : List ℕ) (j s f t : ℕ) → s ≡ start E j → f ≡ min s (length W) → (m : ℕ) → m ≡ min (length W) (get_or E j 0) → t ≡ max m f →
+    take (t - f) (drop f W) ≡ word_list E W j
+unfolding word_list
+word-cut E W j s f t b a m e d = ⊎_elim inside past (less_or s (length W)) ∙ ap (λ (x : ℕ). take (get_or E j 0 - x) (drop x W)) b
+  where
+    inside : s < length W → take (t - f) (drop f W) ≡ take (get_or E j 0 - s) (drop s W)
+    inside h = ap (λ (x : ℕ). take (t - x) (drop x W)) from ∙ ⊎_elim within short (less_or (length W) (get_or E j 0))
+      where
+        from : f ≡ s
+        from = omega arith
+
+        short : get_or E j 0 ≤ length W → take (t - s) (drop s W) ≡ take (get_or E j 0 - s) (drop s W)
+        short l = ap (λ (k : ℕ). take k (drop s W)) (omega (arith, from))
+
+        within : length W < get_or E j 0 → take (t - s) (drop s W) ≡ take (get_or E j 0 - s) (drop s W)
+        within l =
+            take_all (t - s) (drop s W) (omega (arith, from, length-drop s W)) ∙
+            sym (take_all (get_or E j 0 - s) (drop s W) (omega (arith, length-drop s W)))
+
+    past : length W ≤ s → take (t - f) (drop f W) ≡ take (get_or E j 0 - s) (drop s W)
+    past l =
+        ap (take (t - f)) (drop_of_length-le W (omega arith)) ∙ take-nil (t - f) ∙
+        sym (ap (take (get_or E j 0 - s)) (drop_of_length-le W l) ∙ take-nil (get_or E j 0 - s))
+
+-- No second outcome fits the contract of `word`.
+pub word_unique : (E W : List ℕ) (j : ℕ) (r r' : List ℕ) → r ≡ word_list E W j → r' ≡ word_list E W j → r ≡ r'
+word_unique E W j r r' a b = a ∙ sym b

@@ -45,13 +45,17 @@ impl<'a> Query<'a> {
         inplace::only_letters(self.words)
     }
 
-    // The bytes of word j.
+    // The bytes of word j; none where there is no such word, and as many as there are where the ends are none of a query.
     pub fn word(&self, j: usize) -> &'a [u8]
-        requires ok { query_ok (query self.now.words.now self.now.ends.now) ≡ true }
-        requires within { j < length self.now.ends.now }
         ensures { result.now ≡ word_list self.now.ends.now self.now.words.now j }
     {
-        &self.words[self.start(j)..self.ends[j] as usize]
+        if self.ends.len() <= j {
+            return &[];
+        }
+        let n = self.words.len();
+        let from = self.start(j).min(n);
+        let to = n.min(self.ends[j] as usize).max(from);
+        &self.words[from..to]
     }
 
     // Writes the hash of each word, in lower case, to the front of `hashes`.

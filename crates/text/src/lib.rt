@@ -78,12 +78,11 @@ impl<T: Copy> Writer<'_, T> {
         }
     }
 
-    // What has been written.
+    // What has been written; all of the buffer where the next place is past its end.
     pub fn written(&self) -> &[T]
-        requires { self.now.at ≤ length self.now.out.now }
         ensures { result.now ≡ take self.now.at self.now.out.now }
     {
-        &self.out[..self.at]
+        &self.out[..self.at.min(self.out.len())]
     }
 }
 

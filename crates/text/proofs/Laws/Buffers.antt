@@ -5,7 +5,7 @@
 --   adds-append                one addition after the other
 --   adds-all                   what has been added to a buffer from its start is at its front
 --   take_min                   the first n entries of a list: all where it has fewer
---   adds_unique                no second outcome fits
+--   adds_unique, written_unique   no second outcome fits
 use Prim.Native.Nat.{ℕ, suc, min, ◌+◌, ◌≤◌, ◌<◌}
 use mathlib.Core.Path.{◌≡◌, refl, sym, ap, ap₂, ◌∙◌}
 use mathlib.Core.List.{List, [], ◌∷◌, ◌++◌, append-nil, append_assoc}
@@ -157,3 +157,6 @@ module _ {A : Type 0} (t o out : List A) (r : ℕ) (l : length t ≤ length o) (
 
   pub adds-read : take r out ≡ t
   adds-read = ap₂ take adds-next (adds-all t o out r h).holds ∙ front-take t o l
+
+pub written_unique : {A : Type 0} (at : ℕ) (out r s : List A) → r ≡ take at out → s ≡ take at out → r ≡ s
+written_unique at out r s f g = f ∙ sym g
