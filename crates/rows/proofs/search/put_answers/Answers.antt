@@ -3,27 +3,11 @@ use mathlib.Core.Path.{refl}
 use native.Mathlib.Omega.{arith}
 use Rattle.rows.specs.Inner.{table_in}
 use Rattle.text.proofs.Laws.Adding.{added-step}
-use Rattle.rows.proofs.Lending.{stock-within, column-written, lent-start, lent-index, answers-three}
+use Rattle.rows.proofs.Lending.{column-written, lent-start, lent-index, answers-three}
 use Rattle.rows.proofs.search.put_answers.Goals as goal
 
 pub loop-j-init : goal.loop-j-init
 loop-j-init c = lent-start _ _ _ _ refl refl refl refl refl refl
-
-pub written-requires : goal.written-requires
-written-requires c =
-    stock-within _ _ _ (column-written (table_in c.args.rows.now.shape c.args.rows.now.cells.now) c.args.rows.now.few_nodes 0 _ _ refl refl c.put_column.ensures)
-
-pub written-requires-2 : goal.written-requires-2
-written-requires-2 c =
-    stock-within _ _ _ (column-written (table_in c.args.rows.now.shape c.args.rows.now.cells.now) c.args.rows.now.few_nodes 1 _ _ refl refl c.put_column-2.ensures)
-
-pub written-requires-6 : goal.written-requires-6
-written-requires-6 c =
-    stock-within _ _ _ (column-written (table_in c.args.rows.now.shape c.args.rows.now.cells.now) c.args.rows.now.few_nodes 0 _ _ refl refl c.put_column.ensures)
-
-pub written-requires-7 : goal.written-requires-7
-written-requires-7 c =
-    stock-within _ _ _ (column-written (table_in c.args.rows.now.shape c.args.rows.now.cells.now) c.args.rows.now.few_nodes 1 _ _ refl refl c.put_column-2.ensures)
 
 pub returns : goal.returns
 returns c =

@@ -4,14 +4,10 @@ use native.Mathlib.Omega.{arith}
 use lib.Dec.{eqb}
 use lib.Pointwise.{pointwise}
 use Rattle.text.specs.Text.{bytes}
-use Rattle.text.proofs.Laws.Adding.{added-within, added-read}
+use Rattle.text.proofs.Laws.Adding.{added-read}
 use Rattle.sheet.proofs.Heading.{pointwise_is}
 use Rattle.sheet.proofs.Laws.Table.{length-header, header_built}
 use Rattle.sheet.proofs.header.is_header.Goals as goal
-
-pub written-requires : goal.written-requires
-unfolding bytes
-written-requires c = added-within _ _ _ refl (header_built c.args.p c.args.q _ _ _ _ c.put_all.ensures c.put_times.ensures c.put_times-2.ensures)
 
 pub returns : goal.returns
 unfolding bytes
