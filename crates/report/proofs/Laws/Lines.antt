@@ -3,7 +3,7 @@ use Prim.Native.Nat.{ℕ, suc, min, ◌+◌, ◌<◌}
 use mathlib.Core.Path.{◌≡◌, refl, sym, ap, ◌∙◌}
 use mathlib.Core.List.{List, [], ◌∷◌, ◌++◌, append-nil, append_assoc}
 use mathlib.Core.Bool.{Bool, true, false, cond}
-use native.Mathlib.Nat.{suc-ne-zero}
+use native.Mathlib.Nat.{suc-ne-zero, not-suc-le-zero}
 use native.Mathlib.Omega.{arith}
 use borrow.Author.Tests.{eq-eqb, ne_eqb, eqb-true, eqb-false}
 use lib.Dec.{eqb}
@@ -55,6 +55,15 @@ module _ (name : List ℕ) (r : Reply) where
   unfolding alone answer_text node_lines
   answer-parts [] = append-nil (line_text name r [])
   answer-parts (v ∷ l) = refl
+
+  pub answer-none : (l : List ℕ) → [] ≡ l → line_text name r [] ≡ answer_text name r l
+  unfolding answer_text
+  answer-none l e = ap (answer_text name r) e
+
+  pub answer-some : (l : List ℕ) → 0 < length l → node_lines name r l ≡ answer_text name r l
+  unfolding answer_text
+  answer-some [] h = absurd (not-suc-le-zero h)
+  answer-some (v ∷ l) h = refl
 
 -- Of nodes as many are listed as the reply says and as there are; under a refusal none.
 pub shown-accepted : (r : Reply) (nodes : List ℕ) (m : ℕ) → r.refusal ≡ 0 → m ≡ min (length nodes) r.total → take m nodes ≡ listed_by r (take r.total nodes)
