@@ -23,7 +23,7 @@ use Rattle.query.specs.Query.{Query, asked, word_count}
 use Rattle.mentions.specs.declared.Mention.{Mention}
 use Rattle.build.specs.Inner.{Flags}
 use Rattle.query.specs.Plain.{IsQuery}
-use Rattle.query.proofs.Hashing.{asked_is}
+use Rattle.query.proofs.Hashing.{asked_is, asked-other}
 
 abbrev hit : List ℕ → ℕ → Query → ℕ → Bool
 hit T i Q j = same_list (asked Q j) (word_at T i)
@@ -95,6 +95,9 @@ module _ (T : List ℕ) (m : Mention) (Q : Query) (n : ℕ) (c₀ c : List ℕ) 
 
     pub row-kept : x ≡ false → RowFlags T m Q n c₀ c (j + 1)
     row-kept e = row-flags-not (stands ∙ e)
+
+  pub row-other : (h : ℕ) → m.hash ≡ hash_of (word_at T m.place) → h ≡ hash_of (asked Q j) → (m.hash ≡ h → ⊥) → RowFlags T m Q n c₀ c (j + 1)
+  row-other h own hash ne = row-flags-not (asked-other T m.place m.hash (asked Q j) h own hash ne)
 
 pub row-flags-end : (T : List ℕ) (m : Mention) (Q : Query) (n : ℕ) (c₀ c : List ℕ) (j : ℕ) → RowFlags T m Q n c₀ c j → word_count Q ≤ j → Flags T m Q n c₀ c
 row-flags-end T m Q n c₀ c j s l = record { long = s.long; each = λ y u a b. s.done y u (omega (arith, s.within)) b }

@@ -12,6 +12,10 @@ fn flag(text: &[u8], mention: Mention, q: &Query, hashes: &[u32], n: usize, coun
 {
     let Mention { place, hash, node } = mention;
     for j in 0..q.ends.len() {
+        // the hash mostly tells, and is asked before the bytes of the word are cut out
+        if hash != hashes[j] {
+            continue;
+        }
         if query::is_asked(text, place, hash, q.word(j), hashes[j]) {
             counts[j * n + node] = 1;
         }

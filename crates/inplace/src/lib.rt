@@ -51,7 +51,7 @@ pub fn fold(x: u8) -> u8
 fn behind(text: &[u8], at: usize) -> Option<usize>
     ensures { CommentAt text.now at result }
 {
-    if text.get(at..)?.starts_with(b"<!") {
+    if octets::is_at(text, at, b'<') && octets::is_at(text, at + 1, b'!') {
         Some(skim::skim_at(text, at).end)
     } else {
         None
@@ -74,6 +74,7 @@ fn letter_from(text: &[u8], at: usize) -> Option<Letter>
 }
 
 // The hash of the word that stands at a place, in lower case: that of no bytes where no letter or digit stands there. And the place behind its last letter or digit.
+#[inline(never)]
 pub fn hash_word(text: &[u8], at: usize) -> Hashed
     ensures { result ≡ hashed_at text.now at }
 {

@@ -1,15 +1,16 @@
--- No second outcome fits `next`, and no second word what a walk gives. Letters: T text, i place, g in a tag, b the data makes a node, p q passes, m a word. Assumes nothing.
+-- No second outcome fits `next`, nor a walk: what it gives, and what it has then still to give. Letters: T text, i place, g in a tag, b the data makes a node, p q passes, m a word. Assumes nothing.
 use Prim.Native.Nat.{ℕ, suc}
 use mathlib.Core.Path.{◌≡◌, refl, sym, ap, ◌∙◌}
 use mathlib.Core.List.{List, []}
 use native.Mathlib.Omega.{arith}
-use lib.ListN.{length, get_or}
+use lib.ListN.{length, get_or, drop}
 use mathlib.Core.Bool.{Bool}
 use Rattle.std.specs.Prelude.{Option, None, Some}
 use Rattle.fnv.specs.Fnv.{hash_of}
 use Rattle.words.specs.Places.{mention}
 use Rattle.words.specs.Places as words
 use Rattle.words.specs.Reading.{word_at}
+use Rattle.words.specs.Scan.{mentions_in}
 use Rattle.mentions.specs.declared.Pass.{Pass}
 use Rattle.mentions.specs.declared.Mention.{Mention}
 use Rattle.mentions.specs.Next.{next_of}
@@ -41,8 +42,13 @@ module _ (T : List ℕ) (p : Pass) where
   no-mention : (m : Mention) (q : Pass) → left T p ≡ [] → Next T p m q → ⊥
   no-mention m q e a = let long : 0 ≡ suc (length (left T q)) = ap length (sym e ∙ a.more) in omega arith
 
-  pub walk_unique : (r r' : Option Mention) (q q' : Pass) → Walked T p r q → Walked T p r' q' → r ≡ r'
-  walk_unique None None q q' a b = refl
-  walk_unique None (Some n) q q' a b = absurd (no-mention n q' a b)
-  walk_unique (Some m) None q q' a b = absurd (no-mention m q b a)
-  walk_unique (Some m) (Some n) q q' a b = ap Some (mention_unique m n q q' a b)
+  -- What comes back, and what the walk has still to give: it has no more than this to tell one place of it from another.
+  pub walk_unique : (r r' : Option Mention) (q q' : Pass) → Walked T p r q → Walked T p r' q' → (r ≡ r') × (left T q ≡ left T q')
+  walk_unique None None q q' a b = (refl, ap (left T) (a.1 ∙ sym b.1))
+  walk_unique None (Some n) q q' a b = absurd (no-mention n q' a.0 b)
+  walk_unique (Some m) None q q' a b = absurd (no-mention m q b.0 a)
+  walk_unique (Some m) (Some n) q q' a b = (ap Some (mention_unique m n q q' a b), ap (drop 1) (sym a.more ∙ b.more))
+
+-- A walk before the first word of a text.
+pub walk-new_unique : (p p' : Pass) → ((T : List ℕ) → left T p ≡ mentions_in T) → ((T : List ℕ) → left T p' ≡ mentions_in T) → (T : List ℕ) → left T p ≡ left T p'
+walk-new_unique p p' a b T = a T ∙ sym (b T)

@@ -1,7 +1,7 @@
 -- A walk over the words of a text, from mention to mention.
 --   left T p         == the mentions of the text T that a walk at the pass p has still to give
 --   Next T p m q     == the next of them is m, with the hash of its word, and a walk at q has those behind it
---   Walked T p r q   == the walk at p gives r and is then at q: none where no mention is left, else the next
+--   Walked T p r q   == the walk at p gives r and is then at q: none where no mention is left, and it stays at p; else the next
 -- Assumes nothing.
 use Rattle.std.specs.Prelude.{ℕ, ◌<◌, ◌≡◌, List, [], ◌∷◌, Option, None, Some, false, length, drop}
 use Rattle.profile.specs.Tree.{place_in}
@@ -22,5 +22,5 @@ pub record Next (T : List ℕ) (p : Pass) (m : Mention) (q : Pass) : Type 0 wher
   pub more : left T p ≡ mention m.node m.place ∷ left T q
 
 abbrev pub Walked : List ℕ → Pass → Option Mention → Pass → Type 0
-Walked T p None q = left T p ≡ []
+Walked T p None q = (left T p ≡ []) × (q ≡ p)
 Walked T p (Some m) q = Next T p m q

@@ -153,7 +153,8 @@ impl Walk {
         }
     }
 
-    // On to the next word, if there is one.
+    // On to the next word, if there is one; else the walk stays where it is.
+    #[inline(always)]
     pub fn next(&mut self, text: &[u8]) -> Option<Mention>
         ensures { Walked text.now self.old.pass result self.new.pass }
     {

@@ -17,7 +17,7 @@ use lib.Seq.{get_or-set_same, get_or-set_other}
 use borrow.Author.Tests.{eq-eqb, ne_eqb, eqb-true, eqb-false}
 use Rattle.seq.specs.Below.{sum_below}
 use Rattle.seq.specs.Lists.{same_list}
-use Rattle.seq.proofs.Laws.Bools.{bool_cases, and_false-left}
+use Rattle.seq.proofs.Laws.Bools.{bool_cases, and_false-left, and_false-right}
 use Rattle.seq.proofs.Laws.Sums.{sum-zero, sum-suc}
 use Rattle.index.specs.Index.{word_list}
 use Rattle.fnv.specs.Fnv.{hash_of}
@@ -27,7 +27,7 @@ use Rattle.query.specs.Query.{Query, asked, word_count}
 use Rattle.mentions.specs.declared.Mention.{Mention}
 use Rattle.plan.specs.Inner.{is_new, bar, new_at, Tallied}
 use Rattle.query.specs.Plain.{IsQuery}
-use Rattle.query.proofs.Hashing.{asked_is}
+use Rattle.query.proofs.Hashing.{asked_is, asked-other}
 
 -- ---- a word at a mention
 eqb-suc : (u v : ℕ) → eqb (suc u) (suc v) ≡ eqb u v
@@ -125,6 +125,12 @@ module _ (T : List ℕ) (m : Mention) (Q : Query) (L₀ L : List (Option ℕ)) (
 
       pub tallying-not : x ≡ false → Tallying T m Q L₀ L r (j + 1)
       tallying-not y = tallying_old (says ∙ y)
+
+  -- Words of two hashes are two.
+  pub tallying-other : (h : ℕ) → m.hash ≡ hash_of (word_at T m.place) → h ≡ hash_of (asked Q j) → (m.hash ≡ h → ⊥) → Tallying T m Q L₀ L r (j + 1)
+  tallying-other h own hash ne =
+      let seen : Bool = not (option_eq eqb (get_or L j None) (Some m.node)) in
+      tallying_old (here seen refl ∙ and_false-right seen _ (asked-other T m.place m.hash (asked Q j) h own hash ne))
 
 pub tallying_end : (T : List ℕ) (m : Mention) (Q : Query) (L₀ L : List (Option ℕ)) (r j : ℕ) → Tallying T m Q L₀ L r j → word_count Q ≤ j → Tallied T m Q L₀ r L
 tallying_end T m Q L₀ L r j s l =

@@ -19,6 +19,10 @@ fn tally(
     let Mention { place, hash, node } = mention;
     let mut count = 0;
     for j in 0..q.ends.len() {
+        // the hash mostly tells, and is asked before the bytes of the word are cut out
+        if hash != hashes[j] {
+            continue;
+        }
         if lasts[j] != Some(node) && query::is_asked(text, place, hash, q.word(j), hashes[j]) {
             lasts[j] = Some(node);
             count += 1;

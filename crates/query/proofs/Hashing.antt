@@ -1,7 +1,7 @@
 -- The hashes of a query's words.
 --   Hashing, hashing-*   the loop that hashes the words
 --   no_query, no_room_lem, with-room   the ways out of `hash_words`;  hashes-of: what it leaves in 8 zeros
---   asked-apart, asked-same        the ways out of `is_asked`;  asked_is: where the hashes are those of the two words, they need not be asked
+--   asked-apart, asked-same        the ways out of `is_asked`;  asked_is: where the hashes are those of the two words, they need not be asked;  asked-other: words of two hashes are two
 --   hash-words_unique, is-asked_unique   no second outcome fits
 -- Letters: Q query, h hashes, d those that were lent, j word, f where its bytes begin. Assumes nothing.
 use Prim.Native.Nat.{ℕ, zero-le, ◌+◌, ◌≤◌, ◌<◌}
@@ -102,6 +102,9 @@ module _ (T : List ℕ) (i a : ℕ) (q : Word) (b : ℕ) where
       by : (x : Bool) → same_list q (word_at T i) ≡ x → (eqb a b && x) ≡ x
       by true e = ap (λ z. z && true) (eq-eqb a b (own ∙ sym (ap hash_of (same_list-is q (word_at T i) e)) ∙ sym hash))
       by false e = and_false-right (eqb a b) false refl
+
+  pub asked-other : a ≡ hash_of (word_at T i) → b ≡ hash_of q → (a ≡ b → ⊥) → same_list q (word_at T i) ≡ false
+  asked-other own hash ne = sym (asked_is own hash) ∙ and_false-left (eqb a b) (same_list q (word_at T i)) (ne_eqb a b ne)
 
   pub is-asked_unique : (r r' : Bool) → r ≡ (eqb a b && same_list q (word_at T i)) → r' ≡ (eqb a b && same_list q (word_at T i)) → r ≡ r'
   is-asked_unique r r' x y = x ∙ sym y

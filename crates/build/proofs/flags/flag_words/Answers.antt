@@ -24,4 +24,4 @@ pub loop-mention-preserved : goal.loop-mention-preserved
 loop-mention-preserved c = flagging-step _ _ _ _ _ c.loop-mention.invariant _ _ c.in-Some.ensures _ c.flag.ensures
 
 pub returns : goal.returns
-returns c = flagging-end _ _ _ _ _ c.loop-mention.invariant c.in_default.ensures
+returns c = flagging-end _ _ _ _ _ c.loop-mention.invariant c.in_default.ensures.0

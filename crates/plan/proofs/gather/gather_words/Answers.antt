@@ -24,4 +24,4 @@ pub loop-mention-preserved : goal.loop-mention-preserved
 loop-mention-preserved c = counting-step _ _ _ _ _ _ _ (text-kept _ c.requires.pre.kept) c.loop-mention.invariant _ _ c.in-Some.ensures _ _ _ c.if-not-enter.ensures c.tally-total.ensures
 
 pub returns : goal.returns
-returns c = counting-end _ _ _ _ _ _ _ (text-kept _ c.requires.pre.kept) c.loop-mention.invariant c.in_default.ensures _ refl
+returns c = counting-end _ _ _ _ _ _ _ (text-kept _ c.requires.pre.kept) c.loop-mention.invariant c.in_default.ensures.0 _ refl

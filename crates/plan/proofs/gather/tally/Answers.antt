@@ -1,7 +1,7 @@
 -- `plan::gather::tally` meets its contract: glue over Gathering. Assumes nothing.
 use Rattle.std.proofs.Common.{refl, arith}
 use Rattle.query.proofs.Kept.{query-kept}
-use Rattle.plan.proofs.Gathering.{tallying_start, last_fits, tallying-seen, tallying-hit, tallying-not, tallying_end}
+use Rattle.plan.proofs.Gathering.{tallying_start, last_fits, tallying-seen, tallying-other, tallying-hit, tallying-not, tallying_end}
 use Rattle.plan.proofs.gather.tally.Goals.{then-ne+then-is_asked, else-ne, else-ne-via-then-ne+else-is_asked, else-ne-via-else-ne}
 use Rattle.plan.proofs.gather.tally.Goals as goal
 
@@ -22,6 +22,12 @@ offset_bounds-lasts-j-then-is_asked c = omega (arith, c.loop-j-test.true, (query
 
 pub bounds-lasts-j-then-is_asked : goal.bounds-lasts-j-then-is_asked
 bounds-lasts-j-then-is_asked c = last_fits _ _ _ _ _ _ _ (query-kept _ c.requires.ok) c.loop-j.invariant c.loop-j-test.true
+
+pub bounds-hashes-j-then-ne : goal.bounds-hashes-j-then-ne
+bounds-hashes-j-then-ne c = omega (arith, c.loop-j-test.true, (query-kept _ c.requires.ok).few, c.requires.hashes.long)
+
+pub loop-j-preserved-then-hash-hashes : goal.loop-j-preserved-then-hash-hashes
+loop-j-preserved-then-hash-hashes c = tallying-other _ _ _ _ _ _ _ (query-kept _ c.requires.ok) c.loop-j.invariant c.loop-j-test.true _ c.requires.own (c.requires.hashes.each _ c.loop-j-test.true) c.if-hash-hashes.true
 
 pub loop-j-preserved : goal.loop-j-preserved
 loop-j-preserved c =
