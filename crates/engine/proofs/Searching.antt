@@ -1,8 +1,9 @@
 -- From the parts of a search to the whole: two passes, the zeroing of the stack, and what is replied without them.
 --   product_small       a product of answers and words fits
 --   count-pre, counted-fits, write-pre, listed-all, listed-none   the listing
---   clean-of, list-pre, wide-of   what the reply of the checks shows
---   searched-size, searched-listed, searched-refused   a search
+--   clean-of, list-pre   what the reply of the checks shows
+--   answering-refused, answering-listed   the answers, or why there are none
+--   wide-of, searched-zeroed, searched-size   a search
 -- Letters: J job; I index, b whether the smallest are listed; ys, o, w stack, out and own as lent, with 1 to 3 after the first pass or the listing, the second pass, and the zeroing; m answers, k words, f test; r reply. Assumes nothing.
 use Prim.Native.Nat.{ℕ, ◌*◌, ◌≤◌}
 use mathlib.Core.Path.{◌≡◌, refl, sym, ap, ap₂, ◌∙◌}
@@ -13,7 +14,7 @@ use native.Mathlib.Nat.{mul-le-mul_right}
 use native.Mathlib.Omega.{arith}
 use lib.Dec.{eqb, leb}
 use borrow.Author.Tests.{leb-true, eq-eqb}
-use lib.ListN.{length, get_or}
+use lib.ListN.{length}
 use Rattle.seq.specs.Memory.{over}
 use Rattle.seq.proofs.Laws.Bools.{bool_cases, bool-not_both, cond-true, cond-false, and_left, and_right, or_cases}
 use Rattle.seq.proofs.Laws.Gather.{listed_le}
@@ -32,7 +33,7 @@ use Rattle.depot.proofs.Laws.Checks.{refused-size, sized_any, sized_of, sized-wo
 use Rattle.engine.specs.Search.{blanked, stack_after, is_listed, Searched}
 use Rattle.engine.specs.Inner.Entries.{fresh}
 use Rattle.engine.specs.Inner.Going.{Job, nodes_of, words_of, is_answer, answers_of, total, own_rows, Sound}
-use Rattle.engine.specs.Inner.Passes.{job, PassPre, Passed, FitsPre, fitting, ListPre, Listed}
+use Rattle.engine.specs.Inner.Passes.{job, PassPre, Passed, FitsPre, fitting, ListPre, Listed, Answering}
 use Rattle.engine.proofs.Laws.Going.{sound-of}
 use Rattle.engine.proofs.Blanks.{blanked-same}
 use Rattle.engine.proofs.Listing.{answers-same, total-same, own_same, fits-same}
@@ -152,38 +153,15 @@ module _ (p t : List ℕ) (a q : ℕ) (ends occ : List ℕ) (b : Bool) (ys : Lis
   pub list-pre : r.refusal ≡ accepted → ListPre J ys
   list-pre e = record { sound = clean-sound p t a q ends occ (length ys) (clean-of e); wide = (sized_of I (length ys) (clean-of e).size).stacked }
 
-  not-size : (r.refusal ≡ SIZE → ⊥) → DepotSized I (length ys)
-  not-size ne = sized_any I (length ys) (totalled accepted 0) (λ e. ne (ap (λ (x : Reply). x.refusal) r-is ∙ e))
-
-  pub wide-of : (r.refusal ≡ SIZE → ⊥) → (ys₁ : List Entry) → length ys₁ ≡ length ys → 64 ≤ length ys₁
-  wide-of ne ys₁ l = omega (arith, l, (not-size ne).stacked)
-
-  -- The first 64 entries are zeroed under every reply but SIZE.
-  stack-zeroed : depot_size_ok I (length ys) ≡ true → (ys₁ : List Entry) → length ys₁ ≡ length ys → ((i : ℕ) → 64 ≤ i → get_or ys₁ i (fresh 0) ≡ get_or ys i (fresh 0)) →
-      blanked 64 ys₁ ≡ stack_after I ys
-  unfolding stack_after
-  stack-zeroed e ys₁ l same = blanked-same 64 ys ys₁ (fresh 0) (sized_of I (length ys) e).stacked l same ∙ sym (cond-true _ e (blanked 64 ys) ys)
-
-  module _ (ne : r.refusal ≡ accepted → ⊥) where
-    searched-stopped : (ys₃ : List Entry) → ys₃ ≡ stack_after I ys → Searched I b ys o w r ys₃ o w
-    searched-stopped ys₃ e = record {
-      reply = reply-stopped _ ne;
-      stack = e;
-      out = sym (kept-refused r (out_of I f) o ne);
-      own = sym (ap (cond b w) (kept-refused r (own_of I f) w ne) ∙ cond_same b w);
-    }
-
-  pub searched-size : r.refusal ≡ SIZE → Searched I b ys o w r ys o w
-  unfolding stack_after
-  searched-size e = searched-stopped (λ z. omega (arith, e, z)) ys (sym (cond-false _ small (blanked 64 ys) ys))
-    where
-      small : depot_size_ok I (length ys) ≡ false
-      small =
-          ⊎_elim (λ z. absurd (bool-not_both (eqb r.refusal SIZE) (eq-eqb r.refusal SIZE e) (ap (λ (x : Reply). eqb x.refusal SIZE) r-is ∙ refused-size I (length ys) (totalled accepted 0) (λ y. omega arith) ∙ ap not z)))
-          (λ z. z) (bool_cases (depot_size_ok I (length ys)))
-
-  pub searched-refused : (r.refusal ≡ SIZE → ⊥) → (r.refusal ≡ accepted → ⊥) → (ys₃ : List Entry) → ys₃ ≡ blanked 64 ys → Searched I b ys o w r ys₃ o w
-  searched-refused sized ne ys₃ e = searched-stopped ne ys₃ (e ∙ stack-zeroed (sized-yes I (length ys) (not-size sized)) ys refl (λ i l. refl))
+  pub answering-refused : (r.refusal ≡ accepted → ⊥) → Answering I b ys o w r ys o w
+  answering-refused ne = record {
+    reply = reply-stopped _ ne;
+    long = refl;
+    rest = λ i l. refl;
+    kept = λ e. refl;
+    out = sym (kept-refused r (out_of I f) o ne);
+    own = sym (ap (cond b w) (kept-refused r (own_of I f) w ne) ∙ cond_same b w);
+  }
 
   module _ (yes : r.refusal ≡ accepted) (r₁ : Reply) (ys₁ : List Entry) (o₁ w₁ : List ℕ) (d : Listed J b ys o w r₁ ys₁ o₁ w₁) where
     c : Clean I (length ys)
@@ -198,10 +176,56 @@ module _ (p t : List ℕ) (a q : ℕ) (ends occ : List ℕ) (b : Bool) (ys : Lis
         d.reply ∙ ap₂ (λ (x : Bool) (m : ℕ). totalled (cond x accepted ROOM) m) (fits-same p t a q ends occ ended-all b (total J b) refl o w) (total-same p t a q ends occ ended-all b)
         ∙ sym (clean-reply I (length ys) _ c)
 
-    pub searched-listed : (ys₃ : List Entry) → ys₃ ≡ blanked 64 ys₁ → Searched I b ys o w r₁ ys₃ o₁ w₁
-    searched-listed ys₃ e = record {
+    never_size : r₁.refusal ≡ SIZE → ⊥
+    never_size e =
+        let x : cond (fitting b (total J b) (words_of J) (length o) (length w)) accepted ROOM ≡ SIZE = sym (ap (λ (z : Reply). z.refusal) d.reply) ∙ e in
+        by (fitting b (total J b) (words_of J) (length o) (length w)) x
+      where
+        by : (z : Bool) → cond z accepted ROOM ≡ SIZE → ⊥
+        by true q = omega (arith, q)
+        by false q = omega (arith, q)
+
+    pub answering-listed : Answering I b ys o w r₁ ys₁ o₁ w₁
+    answering-listed = record {
       reply = reply-clean;
-      stack = e ∙ stack-zeroed c.size ys₁ d.long d.rest;
+      long = d.long;
+      rest = d.rest;
+      kept = λ e. absurd (never_size e);
       out = d.out ∙ ap (λ (z : List ℕ). kept_or r₁ z o) (answers-same p t a q ends occ ended-all b);
       own = d.own ∙ ap (λ (z : List ℕ). cond b w (kept_or r₁ z w)) (own_same p t a q ends occ ended-all b);
     }
+
+-- ---- the zeroing of the stack, which every reply but SIZE ends with
+module _ (p t : List ℕ) (a q : ℕ) (ends occ : List ℕ) (b : Bool) (ys : List Entry) (o w : List ℕ) (r : Reply) (ys₁ : List Entry) (o₁ w₁ : List ℕ)
+    (s : Answering (depot p t a q ends occ) b ys o w r ys₁ o₁ w₁) where
+  abbrev I₁ : Index
+  I₁ = depot p t a q ends occ
+
+  -- What a search itself replies is no SIZE.
+  other : (z : Bool) → (roomed I₁ (is_listed I₁ b) z).refusal ≡ SIZE → ⊥
+  unfolding roomed
+  other true q = omega (arith, q)
+  other false q = omega (arith, q)
+
+  whole : (ys₃ : List Entry) → ys₃ ≡ stack_after I₁ ys → Searched I₁ b ys o w r ys₃ o₁ w₁
+  whole ys₃ e = record { reply = s.reply; stack = e; out = s.out; own = s.own }
+
+  sized : (r.refusal ≡ SIZE → ⊥) → DepotSized I₁ (length ys)
+  sized ne = sized_any I₁ (length ys) _ (λ e. ne (ap (λ (x : Reply). x.refusal) s.reply ∙ e))
+
+  pub wide-of : (r.refusal ≡ SIZE → ⊥) → 64 ≤ length ys₁
+  wide-of ne = omega (arith, s.long, (sized ne).stacked)
+
+  pub searched-zeroed : (r.refusal ≡ SIZE → ⊥) → (ys₃ : List Entry) → ys₃ ≡ blanked 64 ys₁ → Searched I₁ b ys o w r ys₃ o₁ w₁
+  unfolding stack_after
+  searched-zeroed ne ys₃ e =
+      whole ys₃ (e ∙ blanked-same 64 ys ys₁ (fresh 0) (sized ne).stacked s.long s.rest ∙ sym (cond-true _ (sized-yes I₁ (length ys) (sized ne)) (blanked 64 ys) ys))
+
+  pub searched-size : r.refusal ≡ SIZE → Searched I₁ b ys o w r ys₁ o₁ w₁
+  unfolding stack_after
+  searched-size e = whole ys₁ (s.kept e ∙ sym (cond-false _ small (blanked 64 ys) ys))
+    where
+      small : depot_size_ok I₁ (length ys) ≡ false
+      small =
+          ⊎_elim (λ z. absurd (bool-not_both (eqb r.refusal SIZE) (eq-eqb r.refusal SIZE e) (ap (λ (x : Reply). eqb x.refusal SIZE) s.reply ∙ refused-size I₁ (length ys) _ (other _) ∙ ap not z)))
+          (λ z. z) (bool_cases (depot_size_ok I₁ (length ys)))

@@ -21,7 +21,12 @@ pub(crate) fn each_some(k: usize, a: [u32; 8]) -> bool
     requires { k ≤ 8 }
     ensures { result ≡ each_some k a }
 {
-    (0..k).all(|j| a[j] != 0)
+    for j in 0..k {
+        if a[j] == 0 {
+            return false;
+        }
+    }
+    true
 }
 
 impl Entry {

@@ -7,7 +7,7 @@ ghost use Rattle.std.specs.Prelude.{◌≡◌};
 ghost use Rattle.index.specs.Replies.{reply_of};
 ghost use Rattle.depot.specs.Depot.{depot_of};
 ghost use Rattle.engine.specs.Search.{Searched};
-ghost use Rattle.engine.specs.Inner.Passes.{job, FitsPre, fitting, ListPre, Listed};
+ghost use Rattle.engine.specs.Inner.Passes.{job, FitsPre, fitting, ListPre, Listed, Answering};
 
 use depot::Depot;
 use index::Refusal;
@@ -73,6 +73,21 @@ fn list(
     Ok(m as u32)
 }
 
+// The answers, or why the call is refused: a refusal of the check touches nothing.
+fn answer(
+    depot: Depot,
+    stack: &mut [Entry],
+    out: &mut [u32],
+    own: &mut [u32],
+    smallest: bool,
+) -> Result<u32, Refusal>
+    ensures { Answering (depot_of depot.entry) smallest stack.old out.old own.old (reply_of result)
+        stack.new out.new own.new }
+{
+    depot::check(depot, stack.len())?;
+    list(depot, stack, out, own, smallest)
+}
+
 // The answers to p positive words, the smallest or the exclusive ones, in increasing number, in out; and of the exclusive ones p own counts each, in word order, in own.
 //   Size, Tree, List  as the depot's check has them; Size touches nothing
 //   Room(m)           out is shorter than the m answers or, where the exclusive ones are listed, own than m·p
@@ -88,17 +103,9 @@ pub fn search(
     ensures { Searched (depot_of depot.entry) smallest stack.old out.old own.old (reply_of result)
         stack.new out.new own.new }
 {
-    match depot::check(depot, stack.len()) {
-        Ok(()) => {
-            let answer = list(depot, &mut *stack, out, own, smallest);
-            passes::clear(stack);
-            answer
-        }
-        Err(refusal) => {
-            if refusal != Refusal::Size {
-                passes::clear(stack);
-            }
-            Err(refusal)
-        }
+    let answer = answer(depot, &mut *stack, out, own, smallest);
+    if answer != Err(Refusal::Size) {
+        passes::clear(stack);
     }
+    answer
 }

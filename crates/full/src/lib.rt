@@ -10,7 +10,12 @@ fn is_full(counts: &[u32], n: usize, k: usize, v: usize) -> bool
     requires { FullPre counts.now n k v }
     ensures { result ≡ full_by counts.now n k v }
 {
-    (0..k).all(|j| counts[j * n + v] != 0)
+    for j in 0..k {
+        if counts[j * n + v] == 0 {
+            return false;
+        }
+    }
+    true
 }
 
 // Each flag becomes 1 where its node is full by the counts, else 0. There are as many nodes as flags, and as many words as counts has whole rows of them.

@@ -2,21 +2,16 @@
 --   CountedTo    m of the nodes below v are flagged
 --   Written    and they are written over the front of out
 -- Letters: fl flags, v node, m nodes so far.
-use Prim.Native.Nat.{ℕ, zero, suc, zero-le, ◌+◌, ◌≤◌, ◌<◌}
+use Prim.Native.Nat.{ℕ, zero-le, ◌+◌, ◌≤◌, ◌<◌}
 use mathlib.Core.Path.{◌≡◌, refl, sym, ap, ap₂, ◌∙◌, subst}
-use mathlib.Core.Logic.{⊎_elim}
 use mathlib.Core.List.{List, [], ◌∷◌, ◌++◌}
-use mathlib.Core.Bool.{true, false}
+use mathlib.Core.Bool.{Bool, true, false}
 use native.Mathlib.Nat.{le_antisymm}
 use native.Mathlib.Omega.{arith}
-use native.Mathlib.Numerals.{add-one}
 use borrow.Author.Tests.{eq-eqb, ne_eqb, eqb-true, eqb-false}
 use lib.Dec.{eqb}
-use lib.ListN.{length, get_or, set, take, length-set, length-append}
-use lib.Seq.{take-length}
-use Rattle.std.specs.List.{count_by}
-use Rattle.std.proofs.lemmas.List.Sums.{count_by_more_yes, count_by_more_no}
-use Rattle.seq.proofs.Laws.Bools.{bool_cases}
+use lib.ListN.{length, get_or, set, length-set, length-append}
+use mir.Val.{bool_byte}
 use Rattle.seq.specs.Below.{gather, listed}
 use Rattle.seq.specs.Memory.{over}
 use Rattle.seq.proofs.Laws.Gather.{gather-zero, gather-yes, gather_no, gather_le}
@@ -57,21 +52,19 @@ counted-yes fl v m s l e = record {
 pub counted_no : (fl : List ℕ) (v m : ℕ) → CountedTo fl v m → v < length fl → (get_or fl v 0 ≡ 1 → ⊥) → CountedTo fl (v + 1) m
 counted_no fl v m s l ne = record { within = omega arith; so_far = s.so_far ∙ sym (ap length (rows_no fl v ne)); small = omega (arith, s.small) }
 
--- What the count of the flags that are 1 comes to.
-count-to : (fl : List ℕ) (v : ℕ) → v ≤ length fl → count_by (λ x. eqb x 1) (take v fl) ≡ length (rows_to fl v)
-count-to fl zero h = sym (ap length (gather-zero (flagged fl) out_row))
-count-to fl (suc v) h =
-    subst (λ (n : ℕ). count_by (λ x. eqb x 1) (take n fl) ≡ length (rows_to fl n)) (add-one v) (⊎_elim
-    (λ (q : eqb (get_or fl v 0) 1 ≡ true).
-    omega (arith, count-to fl v, count_by_more_yes (λ x. eqb x 1) fl v 0 h q, ap length (rows-yes fl v (eqb-true (get_or fl v 0) 1 q)), length-append (rows_to fl v) (v ∷ [])))
-    (λ (q : eqb (get_or fl v 0) 1 ≡ false).
-    count_by_more_no (λ x. eqb x 1) fl v 0 h q ∙ count-to fl v (omega arith) ∙ sym (ap length (rows_no fl v (eqb-false (get_or fl v 0) 1 q))))
-    (bool_cases (eqb (get_or fl v 0) 1)))
+-- One flag more, whichever it is.
+pub counted-turn : (fl : List ℕ) (v m : ℕ) → CountedTo fl v m → v < length fl → (r : ℕ) → r ≡ bool_byte (eqb (get_or fl v 0) 1) → CountedTo fl (v + 1) (m + r)
+counted-turn fl v m s l r e = subst (λ (z : ℕ). CountedTo fl (v + 1) (m + z)) (sym e) (by (eqb (get_or fl v 0) 1) refl)
+  where
+    by : (b : Bool) → eqb (get_or fl v 0) 1 ≡ b → CountedTo fl (v + 1) (m + bool_byte b)
+    by true q = counted-yes fl v m s l (eqb-true (get_or fl v 0) 1 q)
+    by false q =
+        let all : m ≡ m + 0 = omega arith in
+        subst (λ (z : ℕ). CountedTo fl (v + 1) z) all (counted_no fl v m s l (eqb-false (get_or fl v 0) 1 q))
 
-pub count-all : (fl : List ℕ) → count_by (λ x. eqb x 1) fl ≡ length (listed (length fl) (flagged fl))
+pub counted-end : (fl : List ℕ) (v m : ℕ) → CountedTo fl v m → length fl ≤ v → m ≡ length (listed (length fl) (flagged fl))
 unfolding listed
-count-all fl =
-    ap (count_by (λ x. eqb x 1)) (sym (take-length fl)) ∙ count-to fl (length fl) (omega arith)
+counted-end fl v m s l = s.so_far ∙ ap (λ (z : ℕ). length (rows_to fl z)) (le_antisymm s.within l)
 
 -- ---- writing
 pub record Written (fl out₀ out : List ℕ) (v m : ℕ) : Type 0 where

@@ -14,7 +14,11 @@ use index::Refusal;
 pub fn count_flagged(flags: &[u32]) -> usize
     ensures { result ≡ length (listed (length flags.now) (flagged flags.now)) }
 {
-    flags.iter().filter(|flag| **flag == 1).count()
+    let mut m: usize = 0;
+    for flag in flags {
+        m += usize::from(*flag == 1);
+    }
+    m
 }
 
 // Writes the flagged nodes over the front of out.

@@ -3,11 +3,16 @@
 --   PassPre, Passed      == a pass: answers are counted, or written
 --   fitting b m k o w     == there is room for m answers of k words in buffers of these lengths
 --   ListPre, Listed      == the answers are counted, and listed where there is room
+--   Answering            == a whole search, but for the zeroing of the stack at its end
 -- Letters: J job; b whether the smallest are listed, t tally; ys, c, o, w stack, cursors, out and own; r number or reply, m answers, k words. Assumes nothing.
 use Rattle.std.specs.Prelude.{ℕ, ◌*◌, ◌≤◌, ◌≡◌, List, Bool, true, false, cond, ◌&&◌, ◌||◌, leb, length, get_or}
 use Rattle.seq.specs.Memory.{over}
 use Rattle.index.specs.declared.Reply.{Reply}
-use Rattle.index.specs.Replies.{accepted, ROOM, totalled, kept_or}
+use Rattle.index.specs.Index.{Index}
+use Rattle.index.specs.Replies.{accepted, SIZE, ROOM, totalled, kept_or}
+use Rattle.depot.specs.Depot.{depot_checked}
+use Rattle.answers.specs.Searches.{out_of, own_of, roomed, out_fits, own_fits}
+use Rattle.engine.specs.Search.{is_listed}
 use Rattle.engine.specs.declared.Entry.{Entry}
 use Rattle.engine.specs.declared.cursors.Cursors.{Cursors}
 use Rattle.engine.specs.declared.steps.Tally.{Tally}
@@ -59,3 +64,12 @@ pub record Listed (J : Job) (b : Bool) (ys : List Entry) (o w : List ℕ) (r : R
   pub rest : (i : ℕ) → 64 ≤ i → get_or ys' i (fresh 0) ≡ get_or ys i (fresh 0)
   pub out : o' ≡ kept_or r (answers_of J b) o
   pub own : w' ≡ cond b w (kept_or r (own_rows J b) w)
+
+-- As Searched, but for the zeroing of the stack: it keeps its length and what stands behind its first 64 entries, and under SIZE all of it.
+pub record Answering (I : Index) (b : Bool) (ys : List Entry) (o w : List ℕ) (r : Reply) (ys' : List Entry) (o' w' : List ℕ) : Type 0 where
+  pub reply : r ≡ depot_checked I (length ys) (roomed I (is_listed I b) (out_fits I (is_listed I b) o && (b || own_fits I (is_listed I b) w)))
+  pub long : length ys' ≡ length ys
+  pub rest : (i : ℕ) → 64 ≤ i → get_or ys' i (fresh 0) ≡ get_or ys i (fresh 0)
+  pub kept : r.refusal ≡ SIZE → ys' ≡ ys
+  pub out : o' ≡ kept_or r (out_of I (is_listed I b)) o
+  pub own : w' ≡ cond b w (kept_or r (own_of I (is_listed I b)) w)

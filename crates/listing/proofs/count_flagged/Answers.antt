@@ -1,12 +1,12 @@
--- `listing::count_flagged` meets its contract.
-use mathlib.Core.Path.{◌≡◌, ◌∙◌}
-use lib.Dec.{eqb}
-use Rattle.std.specs.List.{count_by}
-use Rattle.std.proofs.Common.{rules}
-use Rattle.listing.proofs.Writing.{count-all}
+-- `listing::count_flagged` meets its contract: glue over Writing.
+use Rattle.listing.proofs.Writing.{counted_start, counted-turn, counted-end}
 use Rattle.listing.proofs.count_flagged.Goals as goal
 
+pub loop-flag-init : goal.loop-flag-init
+loop-flag-init c = counted_start _
+
+pub loop-flag-preserved : goal.loop-flag-preserved
+loop-flag-preserved c = counted-turn _ _ _ c.loop-flag.invariant c.loop-flag-test.true _ c.from-m.ensures
+
 pub returns : goal.returns
-returns c =
-    let counted : c.count.result ≡ count_by (λ x. eqb x 1) c.args.flags.now = search rules in
-    counted ∙ count-all _
+returns c = counted-end _ _ _ c.loop-flag.invariant c.loop-flag-test.false

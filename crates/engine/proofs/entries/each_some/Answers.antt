@@ -1,16 +1,15 @@
--- `engine::entries::each_some` meets its contract. Assumes nothing.
-use mathlib.Core.Path.{refl, ◌∙◌}
-use native.Mathlib.Omega.{arith}
-use borrow.Author.Tests.{tests}
-use lib.Dec.{ltb}
-use lib.ListN.{get_or}
-use Rattle.std.proofs.Common.{rules}
-use Rattle.std.proofs.lemmas.Iterator.{YieldsList-from_range}
-use Rattle.std.proofs.lemmas.Iterator.Search.{all_from_yields_List}
-use Rattle.engine.proofs.Rows.{each_some-all}
+-- `engine::entries::each_some` meets its contract: glue over Rows. Assumes nothing.
+use Rattle.engine.proofs.Rows.{testing_start, testing_step, testing_fails, testing_end}
 use Rattle.engine.proofs.entries.each_some.Goals as goal
 
+pub loop-j-init : goal.loop-j-init
+loop-j-init c = testing_start _ _
+
+pub returns-then-a-j-eq0 : goal.returns-then-a-j-eq0
+returns-then-a-j-eq0 c = testing_fails _ _ _ c.loop-j-test.true c.if-a-j-eq0.true
+
+pub loop-j-preserved : goal.loop-j-preserved
+loop-j-preserved c = testing_step _ _ _ c.loop-j.invariant c.loop-j-test.true c.if-a-j-eq0.false
+
 pub returns : goal.returns
-returns c =
-    all_from_yields_List (λ j. ltb 0 (get_or c.args.a j 0)) _ _ c.all.result c.all.ensures.ran (YieldsList-from_range 0 c.args.k c.args.k refl (omega arith)) (λ x b q k. search (rules, tests))
-    ∙ each_some-all _ _
+returns c = testing_end _ _ _ c.loop-j.invariant c.loop-j-test.false
